@@ -1,0 +1,4 @@
+pub mod Integers
+pub mod LineEnds
+pub mod Utf16
+pub mod Whitespace

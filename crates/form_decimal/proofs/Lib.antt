@@ -1,0 +1,9 @@
+pub mod ScalingLemmas
+pub mod SpellingLemmas
+pub mod AlignedLemmas
+pub mod NearestLemmas
+pub mod ChoiceLemmas
+pub mod PrintLemmas
+pub mod MeaningLemmas
+pub mod FoldLemmas
+pub mod Laws

@@ -1,0 +1,10 @@
+pub mod Numeral
+pub mod Spelling
+pub mod Reading
+pub mod Scaled
+pub mod Plain
+pub mod Printed
+pub mod Alignment
+pub mod Neighbours
+pub mod Nearest
+pub mod Halving

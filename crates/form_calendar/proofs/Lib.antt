@@ -1,0 +1,12 @@
+pub mod DigitLemmas
+pub mod ReadingLemmas
+pub mod PrintLemmas
+pub mod MonthLemmas
+pub mod DateLemmas
+pub mod DateTexts
+pub mod WeekLemmas
+pub mod WeekTexts
+pub mod TimeLemmas
+pub mod TimeTexts
+pub mod LocalLemmas
+pub mod LocalTexts

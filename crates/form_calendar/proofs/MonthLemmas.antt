@@ -1,0 +1,122 @@
+-- A month string is read from the left exactly as it is spelled.
+use Rattle.std.proofs.Common.{◌≡◌, ℕ, ◌+◌, ◌-◌, ◌*◌, ◌/◌, ◌%◌, ◌^◌, ◌<◌, ◌≤◌, ◌&&◌, List, [], length, Some, None, refl, ap, sym, subst, ◌∙◌, arith, codes, eqb, leb, ltb, append-nil, ℤ, pos, negsuc, neg_ℤ, ◌+ℤ◌, ◌<ℤ◌, unsigned_abs}
+use Rattle.std.proofs.lemmas.Bool.{and_parts, leb-true, le-leb, ltb-true, lt-ltb}
+use Rattle.std.proofs.lemmas.Option.{option_and_then_some, cond_some, none-some}
+use Rattle.std.specs.Int.{IsInRange}
+use Rattle.form_calendar.specs.Reading.{pair_at}
+use Rattle.form_calendar.specs.Month.{IsMonthText, IsValidMonth, months_from_1970, month_number_of, month_number, year_month_text, months_text, month_text}
+use Rattle.form_calendar.specs.Shortest.{IsShortest}
+use Rattle.jiff_core.proofs.SignedLemmas.{signed_arith, one_part}
+use Rattle.form_calendar.proofs.DigitLemmas.{writes_below, pair_writes, pair_only}
+use Rattle.form_calendar.proofs.PrintLemmas.{only_shortest}
+use Rattle.form_calendar.proofs.ReadingLemmas.{some_if, none_if, pair_at_reads, pair_at_again, whole_front}
+
+pub month_number_of_some : (y m : ℕ) (n : ℤ) → month_number_of y m ≡ Some n → (1 ≤ y) × IsInRange 1 12 m × (n ≡ months_from_1970 y m)
+unfolding month_number_of
+month_number_of_some y m n h =
+    let c = cond_some (leb 1 y && (leb 1 m && leb m 12)) _ n h in
+    let a = and_parts (leb 1 y) (leb 1 m && leb m 12) c.0 in
+    let b = and_parts (leb 1 m) (leb m 12) a.1 in
+    (leb-true 1 y a.0, (leb-true 1 m b.0, leb-true m 12 b.1), sym c.1)
+
+pub month_number_of_is : (y m : ℕ) → 1 ≤ y → IsInRange 1 12 m → month_number_of y m ≡ Some (months_from_1970 y m)
+unfolding month_number_of
+month_number_of_is y m h r = rw (le-leb 1 y h, le-leb 1 m r.0, le-leb m 12 r.1) refl
+
+-- what is read is a valid month string of that number
+pub month_found : (text : List ℕ) (n : ℤ) → month_number text ≡ Some n → IsValidMonth text n
+unfolding month_number
+month_found text n h =
+    option_and_then_some _ (pair_at 4 (codes "-") text) n h (λ r e k.
+    let t = some_if (eqb (length r.1) 0) (month_number_of r.0.0 r.0.1) n k in
+    let front = pair_at_reads 4 (codes "-") text r.1 r.0.0 r.0.1 e in
+    let parts = month_number_of_some r.0.0 r.0.1 n t.1 in
+    record {
+      year = r.0.0;
+      month = r.0.1;
+      spelled = subst (λ x. IsMonthText x r.0.0 r.0.1) (whole_front text front.0 r.1 front.2 t.0) front.1;
+      from_year_one = parts.0;
+      month_in = parts.1;
+      number = parts.2;
+    })
+
+-- and a valid month string of a number is read as that number
+pub month_again : (text : List ℕ) (n : ℤ) → IsValidMonth text n → month_number text ≡ Some n
+unfolding month_number
+month_again text n v =
+    let e : pair_at 4 (codes "-") text ≡ Some ((v.year, v.month), []) = ap (pair_at 4 (codes "-")) (sym (append-nil text)) ∙ pair_at_again 4 text [] v.year v.month (codes "-") (λ r. refl) v.spelled in
+    rw e (month_number_of_is v.year v.month v.from_year_one v.month_in ∙ ap Some (sym v.number))
+
+months_valid : (z n : ℤ) (text : List ℕ) → z ≡ n +ℤ pos 23640 → months_text z ≡ Some text → IsValidMonth text n
+unfolding months_text
+months_valid (negsuc k) n text e h = cc
+months_valid (pos k) n text e h =
+    let t = cond_some (leb 12 k && ltb k 120000) (year_month_text (k / 12) (k % 12 + 1)) text h in
+    let both = and_parts (leb 12 k) (ltb k 120000) t.0 in
+    let low = leb-true 12 k both.0 in
+    let high = ltb-true k 120000 both.1 in
+    record {
+      year = k / 12;
+      month = k % 12 + 1;
+      spelled = subst (λ x. IsMonthText x (k / 12) (k % 12 + 1)) t.1 (pair_writes 4 (codes "-") (k / 12) (k % 12 + 1) (omega arith) (omega arith) (omega arith) (omega arith));
+      from_year_one = omega arith;
+      month_in = (omega arith, omega arith);
+      number = omega (arith, signed_arith);
+    }
+
+-- the text of a number of months is valid
+pub month_text_valid : (n : ℤ) (text : List ℕ) → month_text n ≡ Some text → IsValidMonth text n
+month_text_valid n text h = months_valid (n +ℤ pos 23640) n text refl h
+
+months_is : (k : ℕ) → 12 ≤ k → k < 120000 → months_text (pos k) ≡ Some (year_month_text (k / 12) (k % 12 + 1))
+unfolding months_text
+months_is k low high = rw (le-leb 12 k low, lt-ltb k 120000 high) refl
+
+-- and a number of months has no other valid text
+pub month_text_only : (text : List ℕ) (n : ℤ) → IsValidMonth text n → month_text n ≡ Some text
+month_text_only text n v =
+    let m = v.month_in in
+    let low = v.from_year_one in
+    let below : v.year < 10000 = writes_below 4 v.spelled.first_text v.year v.spelled.first_is in
+    let k = v.year * 12 + (v.month - 1) in
+    let z : n +ℤ pos 23640 ≡ pos k = omega (arith, signed_arith, v.number) in
+    let year : k / 12 ≡ v.year = omega arith in
+    let month : k % 12 + 1 ≡ v.month = omega arith in
+    ap months_text z ∙ months_is k (omega arith) (omega arith)
+    ∙ ap Some (ap (λ x. year_month_text x (k % 12 + 1)) year ∙ ap (year_month_text v.year) month ∙ sym (pair_only 4 (codes "-") text v.year v.month (omega arith) (omega arith) v.spelled))
+
+pub months_low : (n : ℤ) → n <ℤ neg_ℤ (pos 23628) → None ≡ month_text n
+months_low n h =
+    none_if (month_text n) (λ t e. let v = month_text_valid n t e in let m = v.month_in in omega (arith, signed_arith, v.number, v.from_year_one))
+
+pub months_high : (n : ℤ) → pos 96359 <ℤ n → None ≡ month_text n
+months_high n h =
+    none_if (month_text n) (λ t e. let v = month_text_valid n t e in let m = v.month_in in omega (arith, signed_arith, v.number, writes_below 4 v.spelled.first_text v.year v.spelled.first_is))
+
+pub month_text_at : (n : ℤ) (k : ℕ) → n +ℤ pos 23640 ≡ pos k → 12 ≤ k → k < 120000 → Some (year_month_text (k / 12) (k % 12 + 1)) ≡ month_text n
+month_text_at n k e low high = sym (ap months_text e ∙ months_is k low high)
+
+-- the text of a number is its shortest valid text
+pub month_text_shortest : (n : ℤ) (text : List ℕ) → month_text n ≡ Some text → IsShortest IsValidMonth text n
+month_text_shortest = only_shortest IsValidMonth month_text month_text_valid month_text_only
+
+-- it reads back as the number
+pub month_text_back : (n : ℤ) (text : List ℕ) → month_text n ≡ Some text → month_number text ≡ Some n
+month_text_back n text h = month_again text n (month_text_valid n text h)
+
+-- it is there wherever some valid text has the number
+pub month_text_some : (text : List ℕ) (n : ℤ) → IsValidMonth text n → (short : List ℕ) × (month_text n ≡ Some short)
+month_text_some text n v = (text, month_text_only text n v)
+
+pub month_text_none : (n : ℤ) → month_text n ≡ None → (text : List ℕ) → IsValidMonth text n → ⊥
+month_text_none n h text v = none-some text (sym h ∙ month_text_only text n v)
+
+pub month_number_text : (text : List ℕ) (n : ℤ) → month_number text ≡ Some n → (short : List ℕ) × (month_text n ≡ Some short)
+month_number_text text n h = month_text_some text n (month_found text n h)
+
+-- the number of a valid text is small
+pub month_bound : (text : List ℕ) (n : ℤ) → IsValidMonth text n → unsigned_abs n ≤ 10 ^ 15
+month_bound text n v =
+    let m = v.month_in in
+    let below : v.year < 10 ^ 4 = writes_below 4 v.spelled.first_text v.year v.spelled.first_is in
+    omega (arith, signed_arith, one_part n, v.number)

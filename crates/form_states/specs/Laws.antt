@@ -1,0 +1,103 @@
+-- The laws of the states: sanitising is idempotent, and is the rule of the state.
+use Rattle.std.proofs.Common.{◌≡◌, ℕ, ◌&&◌, Bool, true, false, cond, List, [], ◌∷◌, map, length, Option, Some, None, refl, ap, ◌∙◌, arith, eqb, ℤ, codes}
+use Rattle.std.specs.Prelude.{option_and_then, unwrap_or}
+use Rattle.std.proofs.lemmas.Bool.{and_parts, eqb-true}
+use Rattle.std.proofs.lemmas.Bool.Decides.{nat_tests}
+use Rattle.std.proofs.lemmas.List.{length-map}
+use Rattle.std.specs.List.{list_all}
+use Rattle.std.specs.Char.{to_ascii_lowercase, is_ascii_hexdigit}
+use Rattle.form_text.specs.LineEnds.{without_newlines}
+use Rattle.form_text.specs.Whitespace.{stripped}
+use Rattle.form_text.proofs.WhitespaceLaws.{without_newlines_again, stripped_again, stripped_keeps_none}
+use Rattle.form_calendar.specs.LocalDateTime.{local_number, local_text}
+use Rattle.form_types.specs.declared.kind.Kind.{Kind}
+use Rattle.form_types.specs.declared.kind.Kind.TheVariants as kinds
+use Rattle.form_states.specs.declared.limits.Limits.{Limits}
+use Rattle.form_calendar.proofs.LocalTexts.{local_text_back, local_number_text}
+use Rattle.form_states.specs.Numbers.{number_of}
+use Rattle.form_states.specs.Limits.{IsLimits, HasDecimals}
+use Rattle.form_states.specs.Sanitised.{kept_if_number, is_simple_color, color_sanitised, local_sanitised, IsSanitised, sanitised}
+use Rattle.form_states.specs.RangeLaws.{range_again, range_is}
+
+-- newlines and then whitespace at the ends: nothing is left to take away
+pub url_again : (t : List ℕ) → stripped (without_newlines (stripped (without_newlines t))) ≡ stripped (without_newlines t)
+url_again t =
+    ap stripped (stripped_keeps_none (without_newlines t) (without_newlines_again t))
+    ∙ stripped_again (without_newlines t)
+
+-- a text that has a number stays, and the empty text is empty whatever it has
+pub kept_again : (read : List ℕ → Option ℤ) (t : List ℕ) → kept_if_number (read (kept_if_number (read t) t)) (kept_if_number (read t) t) ≡ kept_if_number (read t) t
+kept_again read t = go (read t) refl
+  where
+    empty : (o : Option ℤ) → kept_if_number o [] ≡ []
+    empty (Some n) = refl
+    empty None = refl
+
+    go : (o : Option ℤ) → read t ≡ o → kept_if_number (read (kept_if_number o t)) (kept_if_number o t) ≡ kept_if_number o t
+    go (Some n) e = ap (λ o. kept_if_number o t) e
+    go None e = empty (read [])
+
+-- a normalised form is the normalised form of itself
+pub local_again : (t : List ℕ) → local_sanitised (local_sanitised t) ≡ local_sanitised t
+unfolding local_number
+local_again t = go (local_number t) refl
+  where
+    go : (o : Option ℤ) → local_number t ≡ o → local_sanitised (unwrap_or (option_and_then local_text o) []) ≡ unwrap_or (option_and_then local_text o) []
+    go None e = refl
+    go (Some n) e =
+        let s = local_number_text t n e in
+        let f : unwrap_or (local_text n) [] ≡ s.0 = ap (λ o. unwrap_or o []) s.1 in
+        ap local_sanitised f
+        ∙ ap (λ o. unwrap_or (option_and_then local_text o) []) (local_text_back n s.0 s.1)
+
+-- lower case stays lower case, and a simple colour in lower case is one
+lower_again : (t : List ℕ) → map to_ascii_lowercase (map to_ascii_lowercase t) ≡ map to_ascii_lowercase t
+lower_again [] = refl
+lower_again (x ∷ xs) = let e : to_ascii_lowercase (to_ascii_lowercase x) ≡ to_ascii_lowercase x = grind (arith, nat_tests) in cc (e, lower_again xs)
+
+hex_lower : (c : ℕ) → is_ascii_hexdigit c ≡ true → is_ascii_hexdigit (to_ascii_lowercase c) ≡ true
+hex_lower c h = grind (arith, nat_tests)
+
+all_hex_lower : (t : List ℕ) → list_all is_ascii_hexdigit t ≡ true → list_all is_ascii_hexdigit (map to_ascii_lowercase t) ≡ true
+all_hex_lower [] h = refl
+all_hex_lower (x ∷ xs) h =
+    let parts = and_parts (is_ascii_hexdigit x) (list_all is_ascii_hexdigit xs) h in
+    rw (hex_lower x parts.0) (all_hex_lower xs parts.1)
+
+color_lower : (t : List ℕ) → is_simple_color t ≡ true → is_simple_color (map to_ascii_lowercase t) ≡ true
+color_lower [] h = h
+color_lower (x ∷ xs) h =
+    let parts = and_parts (eqb x 35 && eqb (length xs) 6) (list_all is_ascii_hexdigit xs) h in
+    let front = and_parts (eqb x 35) (eqb (length xs) 6) parts.0 in
+    let first : eqb (to_ascii_lowercase x) 35 ≡ true = let e : x ≡ 35 = eqb-true x 35 front.0 in rw e refl in
+    let long : eqb (length (map to_ascii_lowercase xs)) 6 ≡ true = rw length-map front.1 in
+    rw (first, long) (all_hex_lower xs parts.1)
+
+pub color_again : (t : List ℕ) → color_sanitised (color_sanitised t) ≡ color_sanitised t
+color_again t = go (is_simple_color t) refl
+  where
+    go : (b : Bool) → is_simple_color t ≡ b → color_sanitised (cond b (map to_ascii_lowercase t) (codes "#000000")) ≡ cond b (map to_ascii_lowercase t) (codes "#000000")
+    go true e = rw (color_lower t e) (lower_again t)
+    go false e = refl
+
+-- Sanitising twice gives what sanitising once gives.
+pub sanitised_again : (kind : Kind) (l : Limits) (t : List ℕ) → HasDecimals l → sanitised kind l (sanitised kind l t) ≡ sanitised kind l t
+sanitised_again kinds.Text l t d = without_newlines_again t
+sanitised_again kinds.Search l t d = without_newlines_again t
+sanitised_again kinds.Tel l t d = without_newlines_again t
+sanitised_again kinds.Password l t d = without_newlines_again t
+sanitised_again kinds.Url l t d = url_again t
+sanitised_again kinds.Date l t d = kept_again (number_of kinds.Date) t
+sanitised_again kinds.Month l t d = kept_again (number_of kinds.Month) t
+sanitised_again kinds.Week l t d = kept_again (number_of kinds.Week) t
+sanitised_again kinds.Time l t d = kept_again (number_of kinds.Time) t
+sanitised_again kinds.Local l t d = local_again t
+sanitised_again kinds.Number l t d = kept_again (number_of kinds.Number) t
+sanitised_again kinds.Range l t d = range_again l t d
+sanitised_again kinds.Color l t d = color_again t
+sanitised_again kind l t d = refl
+
+-- The function gives what the rule of the state says.
+pub sanitised_is : (kind : Kind) (l : Limits) (t : List ℕ) → IsLimits kind l → HasDecimals l → IsSanitised kind l t (sanitised kind l t)
+sanitised_is kinds.Range l t h d = range_is l t h.step d
+sanitised_is kind l t h d = refl

@@ -1,0 +1,7 @@
+pub mod Numbers
+pub mod Limits
+pub mod Range
+pub mod Sanitised
+pub mod NumberLaws
+pub mod RangeLaws
+pub mod Laws

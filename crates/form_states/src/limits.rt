@@ -1,0 +1,257 @@
+//! The limits of a control, by its attributes (HTML, "The min and max attributes", "The step
+//! attribute").
+ghost use Rattle.std.specs.Prelude.{◌≡◌, ℤ, pos, negsuc, ◌*ℤ◌, ◌≤ℤ◌, ◌<ℤ◌, ◌^◌, ◌≤◌, Option, Some, None, IfSome, unwrap_or, option_map, unsigned_abs, codes};
+ghost use Rattle.std.specs.Option.{option_or};
+ghost use Rattle.std.specs.Str.{str_eq_ignore_ascii_case};
+ghost use Rattle.form_types.specs.declared.kind.Kind.{Kind};
+ghost use Rattle.form_states.specs.Numbers.{IsDecimal, in_units};
+ghost use Rattle.form_states.specs.Limits.{attribute_number, number_in, default_minimum, default_maximum, default_step_base, step_by, positive_or, allowed_value_step, limits_of, IsScale, IsDefaultStep, IsStep, IsLimits, HasDecimals};
+
+use crate::whole::whole;
+use form_decimal::{Decimal, is_below, read_lenient};
+use form_types::{Kind, default_step, scale, with_state};
+
+/// The limits of a control, as numbers: its minimum, maximum, allowed value step and step base.
+/// A decimal counts units of 10^-12, and so does the step.
+#[derive(Clone, Copy, Debug)]
+pub struct Limits {
+    pub min: Option<Decimal>,
+    pub max: Option<Decimal>,
+    pub step: Option<i128>,
+    pub base: Decimal,
+}
+
+impl Limits {
+    /// The limits that these attributes give a control in that state.
+    ///
+    /// `min`, `max` and `value` are read by the rules for parsing floating-point number values in
+    /// number and range, and as valid strings in the date and time states; `step` by these rules
+    /// in each state with numbers. What does not read is as if it were missing.
+    pub fn of(
+        kind: Kind,
+        min: Option<&str>,
+        max: Option<&str>,
+        step: Option<&str>,
+        value: Option<&str>,
+    ) -> Limits
+        ensures value { result ≡ limits_of kind (option_map (λ t. t.now) min.entry)
+            (option_map (λ t. t.now) max.entry) (option_map (λ t. t.now) step.entry)
+            (option_map (λ t. t.now) value.entry) }
+        ensures limits { IsLimits kind result }
+        ensures decimals { HasDecimals result }
+    {
+        let limits = from_attributes(kind, min, max, step, value);
+        limits.decimals();
+        limits
+    }
+
+    /// Each number of these limits is a decimal.
+    pub(crate) fn decimals(&self)
+        ensures { HasDecimals self.now }
+    {
+        is_decimal(self.min);
+        is_decimal(self.max);
+        let _units = self.base.units();
+    }
+}
+
+fn is_decimal(n: Option<Decimal>)
+    ensures { IfSome n IsDecimal }
+{
+    match n {
+        Some(n) => {
+            let _units = n.units();
+        }
+        None => {}
+    }
+}
+
+#[tactic(auto, unfolding(crate::specs::Limits::limits_of))]
+fn from_attributes(
+    kind: Kind,
+    min: Option<&str>,
+    max: Option<&str>,
+    step: Option<&str>,
+    value: Option<&str>,
+) -> Limits
+    ensures { result ≡ limits_of kind (option_map (λ t. t.now) min.entry)
+        (option_map (λ t. t.now) max.entry) (option_map (λ t. t.now) step.entry)
+        (option_map (λ t. t.now) value.entry) }
+{
+    let own = defaults_of(kind);
+    Limits {
+        min: number_in(kind, min).or(own.min),
+        max: number_in(kind, max).or(own.max),
+        step: allowed_value_step(kind, step),
+        base: number_in(kind, min)
+            .or(number_in(kind, value))
+            .unwrap_or(own.base),
+    }
+}
+
+/// What a state says of limits beside the table of types.
+pub(crate) trait LimitedState {
+    ghost KIND: { Kind };
+
+    /// The number of the text of a `min`, `max` or `value` attribute.
+    fn attribute_number(text: &str) -> Option<Decimal>
+        ensures { result ≡ attribute_number KIND text.now };
+
+    /// What stands where no attribute gives a number.
+    fn defaults() -> Defaults
+        ensures min { result.min ≡ default_minimum KIND }
+        ensures max { result.max ≡ default_maximum KIND }
+        ensures base { result.base ≡ default_step_base KIND };
+}
+
+/// The default minimum, the default maximum and the default step base of a state.
+#[derive(Drop)]
+pub(crate) struct Defaults {
+    min: Option<Decimal>,
+    max: Option<Decimal>,
+    base: Decimal,
+}
+
+impl Defaults {
+    /// No ends, and 0 as the step base.
+    pub(crate) fn none() -> Defaults
+        ensures { result ≡ record { min = None; max = None; base = pos 0 } }
+    {
+        Defaults {
+            min: None,
+            max: None,
+            base: Decimal::zero(),
+        }
+    }
+
+    /// No ends, and a step base of its own.
+    pub(crate) fn from_base(base: i64) -> Defaults
+        requires { unsigned_abs base ≤ 10 ^ 15 }
+        ensures { result ≡ record { min = None; max = None; base = in_units base } }
+    {
+        Defaults {
+            min: None,
+            max: None,
+            base: whole(base),
+        }
+    }
+
+    /// Ends of its own, and 0 as the step base.
+    pub(crate) fn from_ends(min: i64, max: i64) -> Defaults
+        requires low { unsigned_abs min ≤ 10 ^ 15 }
+        requires high { unsigned_abs max ≤ 10 ^ 15 }
+        ensures { result ≡ record { min = Some (in_units min); max = Some (in_units max); base = pos 0 } }
+    {
+        Defaults {
+            min: Some(whole(min)),
+            max: Some(whole(max)),
+            base: Decimal::zero(),
+        }
+    }
+}
+
+fn state_attribute_number<S: LimitedState>(text: &str) -> Option<Decimal>
+    ensures { result ≡ attribute_number S.KIND text.now }
+{
+    S::attribute_number(text)
+}
+
+fn attribute_number(kind: Kind, text: &str) -> Option<Decimal>
+    ensures { result ≡ attribute_number kind text.now }
+{
+    with_state!(kind, state_attribute_number, (text))
+}
+
+fn number_in(kind: Kind, attribute: Option<&str>) -> Option<Decimal>
+    ensures { result ≡ number_in kind (option_map (λ t. t.now) attribute.entry) }
+{
+    match attribute {
+        Some(text) => attribute_number(kind, text),
+        None => None,
+    }
+}
+
+fn state_defaults<S: LimitedState>() -> Defaults
+    ensures min { result.min ≡ default_minimum S.KIND }
+    ensures max { result.max ≡ default_maximum S.KIND }
+    ensures base { result.base ≡ default_step_base S.KIND }
+{
+    S::defaults()
+}
+
+fn defaults_of(kind: Kind) -> Defaults
+    ensures min { result.min ≡ default_minimum kind }
+    ensures max { result.max ≡ default_maximum kind }
+    ensures base { result.base ≡ default_step_base kind }
+{
+    with_state!(kind, state_defaults, ())
+}
+
+/// The allowed value step. The step scale factor and the default step are those of the table.
+fn allowed_value_step(kind: Kind, attribute: Option<&str>) -> Option<i128>
+    ensures value { result ≡ allowed_value_step kind (option_map (λ t. t.now) attribute.entry) }
+    ensures step { IfSome result IsStep }
+{
+    let Some(scale) = scale(kind) else {
+        return None;
+    };
+    let Some(default) = default_step(kind) else {
+        return None;
+    };
+    step_by(scale, default, attribute)
+}
+
+fn step_by(scale: i64, default: i64, attribute: Option<&str>) -> Option<i128>
+    requires scale { IsScale scale }
+    requires default { IsDefaultStep default }
+    ensures value { result ≡ step_by scale default (option_map (λ t. t.now) attribute.entry) }
+    ensures step { IfSome result IsStep }
+{
+    let Some(text) = attribute else {
+        return Some(scaled(whole(default), scale));
+    };
+    if is_any(text) {
+        return None;
+    }
+    Some(scaled(positive_or(whole(default), read_lenient(text)), scale))
+}
+
+fn is_any(text: &str) -> bool
+    ensures { result ≡ str_eq_ignore_ascii_case text.now (codes "any") }
+{
+    text.eq_ignore_ascii_case("any")
+}
+
+fn positive_or(default: Decimal, n: Option<Decimal>) -> Decimal
+    requires { pos 1 ≤ℤ default }
+    ensures value { result ≡ positive_or default n }
+    ensures positive { pos 1 ≤ℤ result }
+{
+    match n {
+        Some(n) => {
+            if is_below(Decimal::zero(), n) {
+                n
+            } else {
+                default
+            }
+        }
+        None => default,
+    }
+}
+
+fn scaled(n: Decimal, scale: i64) -> i128
+    requires positive { pos 1 ≤ℤ n }
+    requires scale { IsScale scale }
+    ensures value { result ≡ n *ℤ scale }
+    ensures step { IsStep result }
+{
+    times(n, scale)
+}
+
+fn times(n: Decimal, scale: i64) -> i128
+    requires { IsScale scale }
+    ensures value { result ≡ n *ℤ scale }
+    ensures bound { IsDecimal n }
+{
+    n.units() * scale as i128
+}

@@ -1,0 +1,68 @@
+//! The state `date`: a day, as milliseconds from 1970-01-01 to its midnight.
+//! A text that is no valid date string becomes empty.
+
+#![tactic(auto, unfolding(form_types::specs::TypeTable::row_of))]
+
+ghost use Rattle.std.specs.Prelude.{◌≡◌};
+ghost use Rattle.form_types.specs.declared.kind.Kind.{Kind};
+ghost use Rattle.form_types.specs.TypeTable.{mode_of};
+ghost use Rattle.form_calendar.specs.Date.{date_number, date_text};
+ghost use Rattle.form_calendar.proofs.DateTexts.{date_text_back};
+ghost use Rattle.form_states.specs.Numbers.{number_of};
+ghost use Rattle.form_states.specs.NumberLaws.{whole_back};
+ghost use Rattle.form_states.specs.Laws.{kept_again};
+
+use crate::input_state::InputState;
+use crate::limits::{Defaults, LimitedState, Limits};
+use crate::whole::{in_units, kept_if_number, whole_of};
+use form_calendar::{print_date, read_date};
+use form_decimal::Decimal;
+use form_types::{DateRow, Kind, Mode};
+use std::alloc::{AllocError, Global};
+
+impl InputState for DateRow {
+    const KIND: Kind = Kind::Date;
+
+    const MODE: Mode = Mode::Value;
+
+    ghost KIND = { Kind.Date };
+
+    ghost MODE = { mode_of Kind.Date };
+
+    fn sanitise(alloc: Global, text: &str, _limits: &Limits) -> Result<String, AllocError> {
+        kept_if_number(alloc, number(text), text)
+    }
+
+    fn number(text: &str) -> Option<Decimal> {
+        number(text)
+    }
+
+    fn text_of(alloc: Global, n: Decimal) -> Result<Option<String>, AllocError> {
+        let Some(n) = whole_of(n) else {
+            return Ok(None);
+        };
+        print_date(alloc, n)
+    }
+
+    ghost idempotent = { λ _ t _. kept_again (number_of Kind.Date) t };
+
+    ghost reads_back = { whole_back date_number date_text date_text_back };
+}
+
+impl LimitedState for DateRow {
+    ghost KIND = { Kind.Date };
+
+    fn attribute_number(text: &str) -> Option<Decimal> {
+        number(text)
+    }
+
+    fn defaults() -> Defaults {
+        Defaults::none()
+    }
+}
+
+fn number(text: &str) -> Option<Decimal>
+    ensures { result ≡ number_of Kind.Date text.now }
+{
+    in_units(read_date(text))
+}

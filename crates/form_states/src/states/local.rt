@@ -1,0 +1,81 @@
+//! The state `datetime-local`: milliseconds from 1970-01-01T00:00, in no time zone. A valid text is
+//! normalised: a `T` before the time, and the shortest time. Another text becomes empty.
+
+#![tactic(auto, unfolding(form_types::specs::TypeTable::row_of))]
+
+ghost use Rattle.std.specs.Prelude.{◌≡◌, IfOk, string_bytes};
+ghost use Rattle.form_types.specs.declared.kind.Kind.{Kind};
+ghost use Rattle.form_types.specs.TypeTable.{mode_of};
+ghost use Rattle.form_calendar.specs.LocalDateTime.{local_number, local_text};
+ghost use Rattle.form_calendar.proofs.LocalTexts.{local_text_back};
+ghost use Rattle.form_states.specs.Numbers.{number_of};
+ghost use Rattle.form_states.specs.Sanitised.{local_sanitised};
+ghost use Rattle.form_states.specs.NumberLaws.{whole_back};
+ghost use Rattle.form_states.specs.Laws.{local_again};
+
+use crate::input_state::InputState;
+use crate::limits::{Defaults, LimitedState, Limits};
+use crate::whole::{in_units, whole_of};
+use form_calendar::{print_local, read_local};
+use form_decimal::Decimal;
+use form_types::{Kind, LocalRow, Mode};
+use std::alloc::{AllocError, Global};
+
+impl InputState for LocalRow {
+    const KIND: Kind = Kind::Local;
+
+    const MODE: Mode = Mode::Value;
+
+    ghost KIND = { Kind.Local };
+
+    ghost MODE = { mode_of Kind.Local };
+
+    fn sanitise(alloc: Global, text: &str, _limits: &Limits) -> Result<String, AllocError> {
+        normalised(alloc, text)
+    }
+
+    fn number(text: &str) -> Option<Decimal> {
+        number(text)
+    }
+
+    fn text_of(alloc: Global, n: Decimal) -> Result<Option<String>, AllocError> {
+        let Some(n) = whole_of(n) else {
+            return Ok(None);
+        };
+        print_local(alloc, n)
+    }
+
+    ghost idempotent = { λ _ t _. local_again t };
+
+    ghost reads_back = { whole_back local_number local_text local_text_back };
+}
+
+impl LimitedState for LocalRow {
+    ghost KIND = { Kind.Local };
+
+    fn attribute_number(text: &str) -> Option<Decimal> {
+        number(text)
+    }
+
+    fn defaults() -> Defaults {
+        Defaults::none()
+    }
+}
+
+fn number(text: &str) -> Option<Decimal>
+    ensures { result ≡ number_of Kind.Local text.now }
+{
+    in_units(read_local(text))
+}
+
+fn normalised(alloc: Global, text: &str) -> Result<String, AllocError>
+    ensures { IfOk result (λ s. string_bytes s ≡ local_sanitised text.now) }
+{
+    let Some(n) = read_local(text) else {
+        return Ok(String::new(alloc));
+    };
+    match print_local(alloc, n)? {
+        Some(normalised) => Ok(normalised),
+        None => Ok(String::new(alloc)),
+    }
+}

@@ -1,0 +1,69 @@
+//! The state `week`: milliseconds from 1970-01-01 to the midnight of its Monday.
+//! A text that is no valid week string becomes empty.
+
+#![tactic(auto, unfolding(form_types::specs::TypeTable::row_of))]
+
+ghost use Rattle.std.specs.Prelude.{◌≡◌};
+ghost use Rattle.form_types.specs.declared.kind.Kind.{Kind};
+ghost use Rattle.form_types.specs.TypeTable.{mode_of};
+ghost use Rattle.form_calendar.specs.Week.{week_number, week_text};
+ghost use Rattle.form_calendar.proofs.WeekTexts.{week_text_back};
+ghost use Rattle.form_states.specs.Numbers.{number_of};
+ghost use Rattle.form_states.specs.NumberLaws.{whole_back};
+ghost use Rattle.form_states.specs.Laws.{kept_again};
+
+use crate::input_state::InputState;
+use crate::limits::{Defaults, LimitedState, Limits};
+use crate::whole::{in_units, kept_if_number, whole_of};
+use form_calendar::{print_week, read_week};
+use form_decimal::Decimal;
+use form_types::{Kind, Mode, WeekRow};
+use std::alloc::{AllocError, Global};
+
+impl InputState for WeekRow {
+    const KIND: Kind = Kind::Week;
+
+    const MODE: Mode = Mode::Value;
+
+    ghost KIND = { Kind.Week };
+
+    ghost MODE = { mode_of Kind.Week };
+
+    fn sanitise(alloc: Global, text: &str, _limits: &Limits) -> Result<String, AllocError> {
+        kept_if_number(alloc, number(text), text)
+    }
+
+    fn number(text: &str) -> Option<Decimal> {
+        number(text)
+    }
+
+    fn text_of(alloc: Global, n: Decimal) -> Result<Option<String>, AllocError> {
+        let Some(n) = whole_of(n) else {
+            return Ok(None);
+        };
+        print_week(alloc, n)
+    }
+
+    ghost idempotent = { λ _ t _. kept_again (number_of Kind.Week) t };
+
+    ghost reads_back = { whole_back week_number week_text week_text_back };
+}
+
+impl LimitedState for WeekRow {
+    ghost KIND = { Kind.Week };
+
+    fn attribute_number(text: &str) -> Option<Decimal> {
+        number(text)
+    }
+
+    /// The default step base is the Monday before 1970-01-01, a Thursday.
+    fn defaults() -> Defaults {
+        Defaults::from_base(-259_200_000)
+    }
+}
+
+fn number(text: &str) -> Option<Decimal>
+    ensures { result ≡ number_of Kind.Week text.now }
+{
+    in_units(read_week(text))
+}

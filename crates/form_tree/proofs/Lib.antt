@@ -1,0 +1,4 @@
+pub mod FirstKeys
+pub mod Places
+pub mod Tested
+pub mod Writes

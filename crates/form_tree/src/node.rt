@@ -1,0 +1,83 @@
+ghost use Rattle.std.specs.Prelude.{◌≡◌};
+ghost use Rattle.form_tree.specs.Tree.{empty_state};
+
+use form_text::{Sequence, Text};
+use std::alloc::Global;
+
+/// The name of an element for as long as its page lives, ordered by its number. The elements that
+/// a page begins with have the keys 1, 2 and so on in tree order; no key is used again.
+#[derive(Clone, Copy, Debug, PartialEq, Eq, PartialOrd, Ord, Hash)]
+pub struct Key(pub u32);
+
+/// What an element is, where forms have a rule for it. A `Choice` is an option element.
+#[derive(Clone, Copy, Debug, PartialEq, Eq)]
+pub enum Tag {
+    Form,
+    Fieldset,
+    Legend,
+    Input,
+    Select,
+    Optgroup,
+    Choice,
+    Textarea,
+    Button,
+    Datalist,
+    Other,
+}
+
+/// An element as it was read: its parent by its place in the list of elements, none at the top.
+#[derive(Clone, Debug, Drop)]
+pub struct Raw {
+    pub parent: Option<usize>,
+    pub tag: Tag,
+    pub attrs: Sequence<(Text, Text)>,
+    pub text: Text,
+}
+
+/// What a control keeps beside its attributes: its value and checkedness with their dirty marks,
+/// whether the user edited the value, the text as it was typed, the selectedness of an option with
+/// its dirtiness, the numbers of the selected files, and the custom validity message.
+#[derive(Clone, Debug, Drop)]
+pub struct State {
+    pub value: Text,
+    pub dirty: bool,
+    pub by_user: bool,
+    pub typed: Text,
+    pub checked: bool,
+    pub dirty_checked: bool,
+    pub selected: bool,
+    pub dirty_selected: bool,
+    pub files: Sequence<u32>,
+    pub message: Text,
+}
+
+/// An element in a tree.
+#[derive(Clone, Debug, Drop)]
+pub struct Node {
+    pub key: Key,
+    pub parent: Option<Key>,
+    pub tag: Tag,
+    pub attrs: Sequence<(Text, Text)>,
+    pub text: Text,
+    pub state: State,
+}
+
+impl State {
+    /// The state in which an element begins: no text, no file, and no mark that is set.
+    pub fn empty(alloc: Global) -> State
+        ensures { result ≡ empty_state }
+    {
+        State {
+            value: Text::from_string(String::new(alloc)),
+            dirty: false,
+            by_user: false,
+            typed: Text::from_string(String::new(alloc)),
+            checked: false,
+            dirty_checked: false,
+            selected: false,
+            dirty_selected: false,
+            files: Sequence::new(alloc),
+            message: Text::from_string(String::new(alloc)),
+        }
+    }
+}

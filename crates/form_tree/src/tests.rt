@@ -1,0 +1,162 @@
+ghost use Rattle.std.specs.Prelude.{◌≡◌, IfOk, vec_len};
+ghost use Rattle.form_tree.specs.Tree.{IsTreeOfRaws};
+
+use crate::{Key, Raw, State, Tag, Tree};
+use form_text::{Sequence, Text};
+use std::alloc::{AllocError, Global};
+use std::test::Fail;
+
+fn text(alloc: Global, text: &str) -> Result<Text, AllocError>
+    ensures { IfOk result (λ t. t ≡ text.now) }
+{
+    Ok(Text::from_string(String::from_str(alloc, text)?))
+}
+
+fn attr(alloc: Global, name: &str, value: &str) -> Result<(Text, Text), AllocError>
+    ensures { IfOk result (λ attr. attr ≡ (name.now, value.now)) }
+{
+    Ok((text(alloc, name)?, text(alloc, value)?))
+}
+
+// `<form action="/s" method="get"><fieldset><input name="q" value="v"></fieldset>
+// <textarea>x y</textarea></form><p></p>`
+fn page(alloc: Global) -> Result<Vec<Raw>, AllocError>
+    ensures few { IfOk result (λ raws. vec_len raws ≡ 5) }
+    ensures tree { IfOk result (λ raws. IsTreeOfRaws raws.items) }
+{
+    let action = attr(alloc, "action", "/s")?;
+    let method = attr(alloc, "method", "get")?;
+    let name = attr(alloc, "name", "q")?;
+    let value = attr(alloc, "value", "v")?;
+    let raws = vec![in alloc;
+        element(
+            None,
+            Tag::Form,
+            vec![in alloc; action, method]?,
+            text(alloc, "")?
+        ),
+        element(Some(0), Tag::Fieldset, Vec::new(alloc), text(alloc, "")?),
+        element(
+            Some(1),
+            Tag::Input,
+            vec![in alloc; name, value]?,
+            text(alloc, "")?
+        ),
+        element(Some(0), Tag::Textarea, Vec::new(alloc), text(alloc, "x y")?),
+        element(None, Tag::Other, Vec::new(alloc), text(alloc, "")?),
+    ]?;
+    Ok(raws)
+}
+
+fn element(parent: Option<usize>, tag: Tag, attrs: Vec<(Text, Text)>, text: Text) -> Raw
+    ensures { result ≡ record { parent = parent; tag = tag; attrs = attrs.items; text = text } }
+{
+    Raw {
+        parent,
+        tag,
+        attrs: Sequence::from_vec(attrs),
+        text,
+    }
+}
+
+#[test]
+fn every_reader_of_every_key(rt: HostRuntime) -> Result<(), Fail> {
+    let alloc = rt.alloc();
+    let tree = Tree::from_raw(alloc, page(alloc)?)?;
+    assert_eq!(rt; tree.len(), 5);
+    // A key, its place, tag, parent, number of attributes and text.
+    let rows = [
+        (0, None, None, None, None, None),
+        (1, Some(0), Some(Tag::Form), None, Some(2), Some("")),
+        (2, Some(1), Some(Tag::Fieldset), Some(1), Some(0), Some("")),
+        (3, Some(2), Some(Tag::Input), Some(2), Some(2), Some("")),
+        (
+            4,
+            Some(3),
+            Some(Tag::Textarea),
+            Some(1),
+            Some(0),
+            Some("x y"),
+        ),
+        (5, Some(4), Some(Tag::Other), None, Some(0), Some("")),
+        (6, None, None, None, None, None),
+        (u32::MAX, None, None, None, None, None),
+    ];
+    for (number, place, tag, parent, attrs, text) in rows {
+        let key = Key(number);
+        assert_eq!(rt; tree.place(key), place);
+        assert_eq!(rt; tree.tag(key), tag);
+        assert_eq!(rt; tree.parent(key), parent.map(|number| Key(number)));
+        assert_eq!(rt; tree.attr_count(key), attrs);
+        assert_eq!(rt; tree.text(key), text);
+        assert_eq!(rt; tree.state(key).is_some(), place.is_some());
+    }
+    for (place, key) in [(0, Some(Key(1))), (4, Some(Key(5))), (5, None)] {
+        assert_eq!(rt; tree.key_at(place), key);
+    }
+    Ok(())
+}
+
+#[test]
+fn attributes_of_an_element(rt: HostRuntime) -> Result<(), Fail> {
+    let alloc = rt.alloc();
+    let tree = Tree::from_raw(alloc, page(alloc)?)?;
+    // Neighbours in one list, names of another element, and keys that are not there.
+    let rows = [
+        (3, "name", Some("q")),
+        (3, "value", Some("v")),
+        (3, "action", None),
+        (1, "action", Some("/s")),
+        (1, "method", Some("get")),
+        (2, "name", None),
+        (0, "action", None),
+        (6, "name", None),
+    ];
+    for (number, name, value) in rows {
+        assert_eq!(rt; tree.attr(Key(number), name), value);
+    }
+    assert!(rt; tree.attrs(Key(0)).is_none());
+    let attrs = tree.attrs(Key(1)).ok_or("no form")?;
+    assert_eq!(rt; attrs.len(), 2);
+    assert_eq!(rt; attrs[1].0.as_str(), "method");
+    assert_eq!(rt; attrs[1].1.as_str(), "get");
+    Ok(())
+}
+
+// Whether the element has the state in which it began.
+fn is_blank(tree: &Tree, key: Key) -> bool {
+    match tree.state(key) {
+        Some(state) => state.value.as_str().is_empty() && !state.dirty,
+        None => false,
+    }
+}
+
+#[test]
+fn a_state_is_that_of_one_element(rt: HostRuntime) -> Result<(), Fail> {
+    let alloc = rt.alloc();
+    let mut tree = Tree::from_raw(alloc, page(alloc)?)?;
+    assert!(rt; is_blank(&tree, Key(3)));
+    assert!(rt; tree.place(Key(3)).is_some());
+    let mut state = State::empty(alloc);
+    state.value = text(alloc, "typed")?;
+    state.dirty = true;
+    tree.set_state(Key(3), state);
+    let state = tree.state(Key(3)).ok_or("no input")?;
+    assert_eq!(rt; state.value.as_str(), "typed");
+    assert!(rt; state.dirty && !state.by_user && !state.checked);
+    assert_eq!(rt; state.files.as_slice().len(), 0);
+    assert!(rt; is_blank(&tree, Key(2)) && is_blank(&tree, Key(4)));
+    assert_eq!(rt; tree.attr(Key(3), "value"), Some("v"));
+    Ok(())
+}
+
+#[test]
+fn one_form_is_a_tree(rt: HostRuntime) -> Result<(), Fail> {
+    let alloc = rt.alloc();
+    let form = element(None, Tag::Form, Vec::new(alloc), text(alloc, "")?);
+    let tree = Tree::from_raw(alloc, vec![in alloc; form]?)?;
+    assert_eq!(rt; tree.len(), 1);
+    assert_eq!(rt; tree.key_at(0), Some(Key(1)));
+    assert_eq!(rt; tree.tag(Key(1)), Some(Tag::Form));
+    Ok(())
+}

@@ -1,0 +1,241 @@
+ghost use Rattle.std.specs.Prelude.{◌≡◌, ◌+◌, ◌<◌, ◌^◌, length, map, IfOk, IfSome, IsSome, Some, vec_len};
+ghost use Rattle.std.specs.Option.{option_copied, option_map};
+ghost use Rattle.form_tree.specs.Tree.{IsTree, IsTreeOfRaws, first_key, at_key, attr_in, attr_of, attrs_of, key_at, node_of_raw, nodes_of_raws, parent_of, place_of, state_of, tag_of, text_of, with_state};
+ghost use Rattle.form_tree.specs.Index.{indexed, first_place};
+ghost use Rattle.form_tree.specs.declared.node.Key.{Key};
+
+use crate::node::{Key, Node, Raw, State, Tag};
+use form_text::{Sequence, Text};
+use std::alloc::{AllocError, Global};
+use std::marker::Model;
+
+/// The elements of a page, in tree order.
+#[derive(Debug, Drop)]
+pub struct Tree {
+    nodes: Vec<Node>,
+    // The place of each key, by its number.
+    places: Vec<Option<usize>>,
+}
+
+impl Model for Tree {
+    ghost use Rattle.std.specs.Prelude.{List};
+    ghost use Rattle.form_tree.specs.declared.node.Node.{Node};
+    ghost use Rattle.form_tree.specs.Tree.{IsTree, shape_of};
+    ghost use Rattle.form_tree.specs.Index.{IsIndexOf};
+
+    ghost Value = { List Node };
+
+    ghost view = { λ t. t.nodes.items };
+
+    ghost invariant = { λ t. IsTree t.nodes.items
+        × IsIndexOf t.places.items (shape_of t.nodes.items) };
+}
+
+impl Tree {
+    /// The tree of a page as it was read: the elements have the keys 1, 2 and so on, in the order
+    /// of the list, and empty states. Their texts are moved and not copied.
+    pub fn from_raw(alloc: Global, raws: Vec<Raw>) -> Result<Tree, AllocError>
+        requires few { vec_len raws < 2 ^ 32 }
+        requires tree { IsTreeOfRaws raws.items }
+        ensures { IfOk result (λ tree. tree ≡ nodes_of_raws raws.items) }
+    {
+        let places = first_index(alloc, raws.len())?;
+        let nodes = nodes_of(alloc, raws)?;
+        Ok(Tree { nodes, places })
+    }
+
+    /// How many elements the tree has.
+    pub fn len(&self) -> usize
+        ensures value { result ≡ length self.now }
+        ensures tree { IsTree self.now }
+    {
+        self.nodes.len()
+    }
+
+    /// The key of the element at a place, counted from 0 in tree order; None where there is none.
+    pub fn key_at(&self, place: usize) -> Option<Key>
+        ensures { result ≡ key_at self.now place }
+    {
+        match self.nodes.get(place) {
+            Some(node) => Some(node.key),
+            None => None,
+        }
+    }
+
+    /// The place of an element in tree order, from 0; None where the tree has no such key.
+    pub fn place(&self, key: Key) -> Option<usize>
+        ensures value { result ≡ place_of self.now key }
+        ensures tree { IsTree self.now }
+    {
+        match self.places.get(key.0 as usize) {
+            Some(place) => *place,
+            None => None,
+        }
+    }
+
+    /// What the element is; None where the tree has no such key.
+    pub fn tag(&self, key: Key) -> Option<Tag>
+        ensures { result ≡ tag_of self.now key }
+    {
+        match self.node(key) {
+            Some(node) => Some(node.tag),
+            None => None,
+        }
+    }
+
+    /// The key of the element's parent; None for an element at the top, and where the tree has no
+    /// such key.
+    pub fn parent(&self, key: Key) -> Option<Key>
+        ensures { result ≡ parent_of self.now key }
+    {
+        self.node(key)?.parent
+    }
+
+    /// The value of an attribute of the element; None where it has no attribute of that name, and
+    /// where the tree has no such key.
+    pub fn attr(&self, key: Key, name: &str) -> Option<&str>
+        ensures { option_copied result ≡ attr_of self.now key name.now }
+    {
+        match self.attrs(key) {
+            Some(attrs) => value_in(attrs, name),
+            None => None,
+        }
+    }
+
+    /// How many attributes the element has; None where the tree has no such key.
+    pub fn attr_count(&self, key: Key) -> Option<usize>
+        ensures { result ≡ option_map length (attrs_of self.now key) }
+    {
+        match self.attrs(key) {
+            Some(attrs) => Some(attrs.len()),
+            None => None,
+        }
+    }
+
+    /// The attributes of the element, each with its name and its value, in their order; None where
+    /// the tree has no such key.
+    pub fn attrs(&self, key: Key) -> Option<&[(Text, Text)]>
+        ensures { option_copied result ≡ attrs_of self.now key }
+    {
+        match self.node(key) {
+            Some(node) => Some(node.attrs.as_slice()),
+            None => None,
+        }
+    }
+
+    /// The text that stands directly in the element; None where the tree has no such key.
+    pub fn text(&self, key: Key) -> Option<&str>
+        ensures { option_copied result ≡ text_of self.now key }
+    {
+        match self.node(key) {
+            Some(node) => Some(node.text.as_str()),
+            None => None,
+        }
+    }
+
+    /// What the element keeps beside its attributes; None where the tree has no such key.
+    pub fn state(&self, key: Key) -> Option<&State>
+        ensures { option_copied result ≡ state_of self.now key }
+    {
+        match self.node(key) {
+            Some(node) => Some(&node.state),
+            None => None,
+        }
+    }
+
+    /// Puts a state in place of that of an element that is there; the old one is dropped.
+    pub fn set_state(&mut self, key: Key, state: State)
+        requires { IsSome (place_of self.old key) }
+        ensures { self.new ≡ with_state self.old key state }
+    {
+        let place = self.place_in(key);
+        let node = &mut self.nodes[place];
+        node.state = state;
+    }
+
+    // The one reader that the others stand on.
+    fn node(&self, key: Key) -> Option<&Node>
+        ensures { option_copied result ≡ at_key self.now key }
+    {
+        match self.place(key) {
+            Some(place) => self.nodes.get(place),
+            None => None,
+        }
+    }
+
+    // The place of a key that is there.
+    fn place_in(&self, key: Key) -> usize
+        requires { IsSome (place_of self.now key) }
+        ensures { place_of self.now key ≡ Some result }
+    {
+        self.place(key).unwrap()
+    }
+}
+
+// The nodes of the raws.
+fn nodes_of(alloc: Global, raws: Vec<Raw>) -> Result<Vec<Node>, AllocError>
+    requires few { vec_len raws < 2 ^ 32 }
+    requires tree { IsTreeOfRaws raws.items }
+    ensures { IfOk result (λ nodes. nodes.items ≡ nodes_of_raws raws.items) }
+{
+    let mut nodes = Vec::with_capacity(alloc, raws.len())?;
+    for raw in raws {
+        let place = nodes.len();
+        nodes.push(new_node(alloc, place, raw))?;
+    }
+    Ok(nodes)
+}
+
+fn new_node(alloc: Global, place: usize, raw: Raw) -> Node
+    requires few { place + 1 < 2 ^ 32 }
+    requires parent { IfSome raw.parent (λ parent. parent < place) }
+    ensures { result ≡ node_of_raw place raw }
+{
+    let Raw {
+        parent,
+        tag,
+        attrs,
+        text,
+    } = raw;
+    Node {
+        key: first_key(place),
+        parent: parent.map(|parent| first_key(parent)),
+        tag,
+        attrs,
+        text,
+        state: State::empty(alloc),
+    }
+}
+
+// The key of the element at a place of a page that was just read.
+fn first_key(place: usize) -> Key
+    requires { place + 1 < 2 ^ 32 }
+    ensures { result ≡ first_key place }
+{
+    Key(place as u32 + 1)
+}
+
+// The index of a tree whose keys are 1, 2 and so on.
+fn first_index(alloc: Global, count: usize) -> Result<Vec<Option<usize>>, AllocError>
+    requires { count < 2 ^ 32 }
+    ensures { IfOk result (λ index. (k : Key) → indexed index.items k ≡ first_place count k) }
+{
+    let mut index = Vec::with_capacity(alloc, count + 1)?;
+    index.push(None)?;
+    for place in 0..count {
+        index.push(Some(place))?;
+    }
+    Ok(index)
+}
+
+// The value of the attribute of a name.
+fn value_in<'a>(attrs: &'a [(Text, Text)], name: &str) -> Option<&'a str>
+    ensures { option_copied result ≡ attr_in attrs.now name.now }
+{
+    for (known, value) in attrs {
+        if known.as_str() == name {
+            return Some(value.as_str());
+        }
+    }
+    None
+}

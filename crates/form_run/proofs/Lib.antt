@@ -1,0 +1,12 @@
+pub mod CommandLaws
+pub mod FirstPassing
+pub mod KeptKeys
+pub mod LineBreaks
+pub mod MovedBytes
+pub mod PageLaws
+pub mod ReadingLaws
+pub mod Replies
+pub mod Runs
+pub mod ScriptLines
+pub mod Texts
+pub mod Words

@@ -1,0 +1,47 @@
+-- What a run knows of its input and its end.
+use Rattle.std.proofs.Common.{◌≡◌, ℕ, ◌<◌, ◌≤◌, length, arith, List, ◌++◌, refl, sym, ap, subst, ◌∙◌, inl, inr, true, false, Some, None, IfSome, append-nil}
+use Rattle.std.specs.Prelude.{Option, ◌⊎◌, IsSome, is_some}
+use Rattle.std.specs.Io.KnownBytes.{append_known, IsAtEnd}
+use Rattle.url.specs.Parts.{Parts}
+use Rattle.form_run.specs.Moved.{Gave}
+use Rattle.form_run.specs.declared.top.Status.{Status}
+use Rattle.form_run.specs.declared.top.Status.TheVariants.{Done, Page, Usage, ReadFault, WriteFault, Memory, TooLong}
+use Rattle.form_run.specs.Transcript.{expected_text, expected_end, IsEnd, IsReadingEnd, IsWritingEnd, IsWhole}
+
+-- what holds of the bytes that were read holds of the bytes that the source held
+pub of_input : (held left : Option (List ℕ)) (before now : ℕ) (input : List ℕ) (P : List ℕ → Type 0) → Gave held left before now input → IsAtEnd left → P input → IfSome held P
+of_input held None before now input P gave at_end here =
+    let Q : Option (List ℕ) → Type 0 = λ h. IfSome h P in subst Q (sym gave.held_is) tt
+of_input held (Some rest) before now input P gave at_end here =
+    let Q : Option (List ℕ) → Type 0 = λ h. IfSome h P in
+    subst Q (sym (gave.held_is ∙ ap Some (ap (λ r. input ++ r) at_end ∙ append-nil input))) here
+
+-- without a fault of the sink the transcript is whole, or memory was refused
+pub settled : (left written now : Option (List ℕ)) (base : Option Parts) (status : Status) (input : List ℕ) (Fault : Type 0) → IsAtEnd left
+    → (IsEnd status ≡ true → (status ≡ expected_end input) × (now ≡ append_known written (expected_text base input)))
+    → (status ≡ WriteFault → Fault) → IsWritingEnd status ≡ true → ¬ Fault
+    → (status ≡ Memory) ⊎ IsWhole left written now base status input
+settled left written now base Done input Fault at_end whole fault kind calm = inr (record { at_end = at_end; end = (whole refl).0; text = (whole refl).1 })
+settled left written now base Page input Fault at_end whole fault kind calm = inr (record { at_end = at_end; end = (whole refl).0; text = (whole refl).1 })
+settled left written now base WriteFault input Fault at_end whole fault kind calm = absurd (calm (fault refl))
+settled left written now base Memory input Fault at_end whole fault kind calm = inl refl
+settled left written now base Usage input Fault at_end whole fault kind calm = cc
+settled left written now base ReadFault input Fault at_end whole fault kind calm = cc
+settled left written now base TooLong input Fault at_end whole fault kind calm = cc
+
+-- without a fault of the source the input is read whole, or memory was refused
+pub stopped : (held left written now : Option (List ℕ)) (base : Option Parts) (status : Status) (Read Write : Type 0) → IsReadingEnd status ≡ true
+    → (status ≡ Usage → base ≡ None) → (status ≡ ReadFault → Read) → (status ≡ TooLong → IfSome held (λ input. 16777217 ≤ length input))
+    → IsSome base → IfSome held (λ input. length input < 16777217 → ¬ Read → ¬ Write → (status ≡ Memory) ⊎ IsWhole left written now base status input)
+stopped None left written now base status Read Write kind usage fault long there = tt
+stopped (Some input) left written now base status Read Write kind usage fault long there = λ short calm silent. go status kind usage fault long short calm
+  where
+    go : (status : Status) → IsReadingEnd status ≡ true → (status ≡ Usage → base ≡ None) → (status ≡ ReadFault → Read) → (status ≡ TooLong → 16777217 ≤ length input)
+        → length input < 16777217 → ¬ Read → (status ≡ Memory) ⊎ IsWhole left written now base status input
+    go Usage kind usage fault long short calm = let P : Option Parts → Type 0 = λ o. is_some o ≡ true in let none : false ≡ true = subst P (usage refl) there in cc
+    go ReadFault kind usage fault long short calm = absurd (calm (fault refl))
+    go TooLong kind usage fault long short calm = let much = long refl in absurd (omega (arith, much))
+    go Memory kind usage fault long short calm = inl refl
+    go Done kind usage fault long short calm = cc
+    go Page kind usage fault long short calm = cc
+    go WriteFault kind usage fault long short calm = cc

@@ -1,0 +1,9 @@
+pub mod Lines
+pub mod Input
+pub mod Reading
+pub mod Page
+pub mod Opened
+pub mod Command
+pub mod Moved
+pub mod Session
+pub mod Transcript

@@ -1,0 +1,60 @@
+// The commands of a script.
+ghost use Rattle.std.specs.Prelude.{◌≡◌, IfOk, option_map, option_copied};
+ghost use Rattle.std.specs.List.{list_all};
+ghost use Rattle.form_run.specs.Command.{command_in, text_set, is_text_character};
+
+use crate::reading::{split_quoted, strip_word};
+use form_text::Text;
+use std::alloc::{AllocError, Global};
+
+/// What a line asks for.
+#[derive(Debug, Drop)]
+pub enum Command {
+    /// The user presses the enter key in the input.
+    Enter,
+    /// A script of the page sets the input's value.
+    Set(Text),
+}
+
+// Whether a text may have the character as it stands.
+fn is_text_character(b: u8) -> bool
+    ensures { result ≡ is_text_character b }
+{
+    (b' '..=b'~').contains(&b) && !matches!(b, b'"' | b'\\')
+}
+
+fn is_text(text: &str) -> bool
+    ensures { result ≡ list_all is_text_character text.now }
+{
+    text.bytes().all(is_text_character)
+}
+
+// The text that the line sets.
+fn text_set(line: &str) -> Option<&str>
+    ensures { option_copied result ≡ text_set line.now }
+{
+    let Some(rest) = strip_word(line, "set @2 \"") else {
+        return None;
+    };
+    let Some((text, rest)) = split_quoted(rest) else {
+        return None;
+    };
+    if !rest.is_empty() || !is_text(text) {
+        return None;
+    }
+    Some(text)
+}
+
+/// The command that the line spells; `None` where it spells none.
+#[tactic(auto, unfolding(crate::specs::Command::command_in))]
+pub fn parse_line(alloc: Global, line: &str) -> Result<Option<Command>, AllocError>
+    ensures { IfOk result (λ command. command ≡ command_in line.now) }
+{
+    if line == "enter @2" {
+        return Ok(Some(Command::Enter));
+    }
+    match text_set(line) {
+        Some(text) => Ok(Some(Command::Set(Text::from_string(String::from_str(alloc, text)?)))),
+        None => Ok(None),
+    }
+}

@@ -1,0 +1,300 @@
+ghost use Rattle.std.specs.Prelude.{◌≤◌};
+
+use super::*;
+use form_ports::{Blob, MemSink, MemSource};
+use std::alloc::Global;
+use std::test::Fail;
+
+const BASE: &str = "https://example.com/a?x#f";
+
+const FIRST: &str =
+    "<form action=\"/s\"><input name=\"q\" required></form>\n%script\nenter @2\nset @2 \"a b\"\nset @2 \"a b\"\nenter @2\nshow @2\n";
+
+const FIRST_TEXT: &str =
+    "page 2\nstopped\ninvalid @2 valueMissing\nok\n@2 value=\"a b\" checked=no candidate=yes flags=-\nok\nok\nrequest GET https://example.com/s?q=a+b\nok\nrefused unbuilt\n";
+
+const BAD_PAGE: &str = "bad page unbuilt 0\n";
+
+// What a run is made over: an input, the most bytes of one call, the calls that fail, and the
+// sink's room.
+#[derive(Clone, Copy)]
+struct Setting<'a> {
+    input: &'a [u8],
+    piece: usize,
+    source_fails: &'a [usize],
+    sink_fails: &'a [usize],
+    room: usize,
+}
+
+impl Setting<'_> {
+    fn of(input: &[u8]) -> Setting<'_>
+        ensures { 1 ≤ result.piece }
+    {
+        Setting {
+            input,
+            piece: 65_536,
+            source_fails: &[],
+            sink_fails: &[],
+            room: 4_096,
+        }
+    }
+}
+
+// A run over objects in memory: the status and the text.
+fn run_in(alloc: Global, words: &[&str], setting: Setting<'_>) -> Result<(Status, Vec<u8>), Fail>
+    requires { 1 ≤ setting.piece }
+{
+    let mut owned = Vec::new(alloc);
+    for word in words {
+        owned.push(String::from_str(alloc, word)?)?;
+    }
+    let bytes = setting.input.to_vec(alloc)?;
+    let mut source = MemSource::new(bytes, setting.piece, setting.source_fails.to_vec(alloc)?);
+    let fails = setting.sink_fails.to_vec(alloc)?;
+    let mut sink = MemSink::new(alloc, setting.room, setting.piece, fails)?;
+    let mut shelf: Vec<Option<Box<dyn Blob>>> = Vec::new(alloc);
+    let status = run(alloc, &owned, &mut source, &mut sink, &mut shelf);
+    Ok((status, sink.bytes().to_vec(alloc)?))
+}
+
+const FREE: &str = "<form action=\"/s\"><input name=\"q\"></form>\n";
+
+// The document's URL, the input, the status and the text.
+const ROWS: [(&str, &str, Status, &str); 13] = [
+    (BASE, FIRST, Status::Done, FIRST_TEXT),
+    (BASE, "<form></form>", Status::Page, BAD_PAGE),
+    (BASE, "", Status::Page, BAD_PAGE),
+    (BASE, "%script\nenter @2\n", Status::Page, BAD_PAGE),
+    (
+        "mailto:a@b.c",
+        "<form action=\"/s\"><input name=\"q\"></form>\n%script\nenter @2",
+        Status::Done,
+        "page 2\nnone action\nok\n",
+    ),
+    (
+        BASE,
+        "<form action=\"mailto:a@b.c\"><input name=\"q\"></form>\n%script\nenter @2",
+        Status::Done,
+        "page 2\nnone scheme\nok\n",
+    ),
+    (
+        BASE,
+        "<form action=\"\"><input name=\"q\"></form>\n%script\nenter @2\nset @2 \"&\"\nenter @2\nset @2 \"\"\n",
+        Status::Done,
+        "page 2\nrequest GET https://example.com/a?q=#f\nok\n@2 value=\"&\" checked=no candidate=yes flags=-\nok\nrequest GET https://example.com/a?q=%26#f\nok\n@2 value=\"\" checked=no candidate=yes flags=-\nok\n",
+    ),
+    (
+        BASE,
+        "<form action=\"/s\"><input name=\"q\" required></form>\n%script\nset @2 \"x\"\nset @2 \"\"\n",
+        Status::Done,
+        "page 2\n@2 value=\"x\" checked=no candidate=yes flags=-\nok\n@2 value=\"\" checked=no candidate=yes flags=valueMissing\nok\n",
+    ),
+    (
+        BASE,
+        "<form action=\"/s\"><input name=\"q\"></form>",
+        Status::Done,
+        "page 2\n",
+    ),
+    (
+        BASE,
+        "<form action=\"/s\"><input name=\"\"></form>",
+        Status::Page,
+        BAD_PAGE,
+    ),
+    (
+        BASE,
+        "<form action=\"&\"><input name=\"q\"></form>",
+        Status::Page,
+        BAD_PAGE,
+    ),
+    (
+        BASE,
+        "<form action=\"/s\"><input name=\"q\"></form>\n\n",
+        Status::Page,
+        BAD_PAGE,
+    ),
+    (
+        BASE,
+        "<form action=\"/s\"><input name=\"q\"></form>\n%script \n%script\nenter @2\n",
+        Status::Page,
+        BAD_PAGE,
+    ),
+];
+
+// Lines that spell no command.
+const NO_COMMANDS: [&str; 10] = [
+    "",
+    "enter @1",
+    "enter  @2",
+    "enter @2\r",
+    "set @2 \"a",
+    "set @2 \"a\" ",
+    "set @2 \"\\n\"",
+    "set @2 \"é\"",
+    "# note",
+    "%script",
+];
+
+#[test]
+fn transcripts(rt: HostRuntime) -> Result<(), Fail> {
+    for (base, input, status, text) in ROWS {
+        let (got, written) = run_in(rt.alloc(), &[base], Setting::of(input.as_bytes()))?;
+        assert_eq!(rt; got, status);
+        assert_eq!(rt; written.as_slice(), text.as_bytes());
+    }
+    for line in NO_COMMANDS {
+        let input = format!(in rt.alloc(); "{}%script\n{}\nenter @2", FREE, line)?;
+        let (got, written) = run_in(rt.alloc(), &[BASE], Setting::of(input.as_bytes()))?;
+        assert_eq!(rt; got, Status::Done);
+        assert_eq!(rt;
+            written.as_slice(),
+            b"page 2\nrefused unbuilt\nrequest GET https://example.com/s?q=\nok\n".as_slice()
+        );
+    }
+    Ok(())
+}
+
+#[test]
+fn words_and_bytes_that_are_refused(rt: HostRuntime) -> Result<(), Fail> {
+    let alloc = rt.alloc();
+    let first = Setting::of(FIRST.as_bytes());
+    for words in [
+        &[][..],
+        &["/x"][..],
+        &[""][..],
+        &[BASE, "file.txt"][..],
+        &["--generate", "0"][..],
+    ] {
+        let (status, text) = run_in(alloc, words, first)?;
+        assert_eq!(rt; status, Status::Usage);
+        assert_eq!(rt; text.len(), 0);
+    }
+    let (status, text) = run_in(alloc, &[BASE], Setting::of(b"a\xFF"))?;
+    assert_eq!(rt; status, Status::Page);
+    assert_eq!(rt; text.as_slice(), BAD_PAGE.as_bytes());
+    Ok(())
+}
+
+const PIECES: [usize; 3] = [1, 16, 65_536];
+
+#[test]
+fn each_read_fails_in_turn(rt: HostRuntime) -> Result<(), Fail> {
+    for piece in PIECES {
+        let first = Setting {
+            piece,
+            ..Setting::of(FIRST.as_bytes())
+        };
+        // One call for each piece, and the one that finds the end.
+        let calls = FIRST.len().div_ceil(piece) + 1;
+        for call in 1..calls + 2 {
+            let failing = Setting {
+                source_fails: &[call],
+                ..first
+            };
+            let (status, text) = run_in(rt.alloc(), &[BASE], failing)?;
+            if call <= calls {
+                assert_eq!(rt; status, Status::ReadFault);
+                assert_eq!(rt; text.len(), 0);
+            } else {
+                assert_eq!(rt; status, Status::Done);
+                assert_eq!(rt; text.as_slice(), FIRST_TEXT.as_bytes());
+            }
+        }
+    }
+    Ok(())
+}
+
+// The pieces of a text that is written a line or a few lines at a time.
+fn write_calls(text: &[&str], piece: usize) -> usize
+    requires { 1 ≤ piece }
+{
+    let mut calls = 0usize;
+    for part in text {
+        calls = calls.saturating_add(part.len().div_ceil(piece));
+    }
+    calls
+}
+
+// The text that the first path writes, cut where one reply ends and the next begins.
+const FIRST_PARTS: [&str; 6] = [
+    "page 2\n",
+    "stopped\ninvalid @2 valueMissing\nok\n",
+    "@2 value=\"a b\" checked=no candidate=yes flags=-\nok\n",
+    "ok\n",
+    "request GET https://example.com/s?q=a+b\nok\n",
+    "refused unbuilt\n",
+];
+
+#[test]
+fn each_write_fails_in_turn(rt: HostRuntime) -> Result<(), Fail> {
+    for piece in PIECES {
+        let first = Setting {
+            piece,
+            ..Setting::of(FIRST.as_bytes())
+        };
+        let calls = write_calls(&FIRST_PARTS, piece);
+        for call in 1..calls.saturating_add(2) {
+            let failing = Setting {
+                sink_fails: &[call],
+                ..first
+            };
+            let (status, text) = run_in(rt.alloc(), &[BASE], failing)?;
+            if call <= calls {
+                assert_eq!(rt; status, Status::WriteFault);
+                assert!(rt; text.len() < FIRST_TEXT.len());
+                assert!(rt; FIRST_TEXT.as_bytes().starts_with(&text));
+            } else {
+                assert_eq!(rt; status, Status::Done);
+                assert_eq!(rt; text.as_slice(), FIRST_TEXT.as_bytes());
+            }
+        }
+    }
+    Ok(())
+}
+
+#[test]
+fn a_sink_that_is_full(rt: HostRuntime) -> Result<(), Fail> {
+    let alloc = rt.alloc();
+    let first = Setting::of(FIRST.as_bytes());
+    for room in 0..FIRST_TEXT.len() {
+        let (status, text) = run_in(alloc, &[BASE], Setting { room, ..first })?;
+        assert_eq!(rt; status, Status::WriteFault);
+        assert_eq!(rt; text.len(), room);
+        assert!(rt; FIRST_TEXT.as_bytes().starts_with(&text));
+    }
+    let room = FIRST_TEXT.len();
+    let (status, text) = run_in(alloc, &[BASE], Setting { room, ..first })?;
+    assert_eq!(rt; status, Status::Done);
+    assert_eq!(rt; text.as_slice(), FIRST_TEXT.as_bytes());
+    Ok(())
+}
+
+#[test]
+fn inputs_at_the_limit(rt: HostRuntime) -> Result<(), Fail> {
+    let alloc = rt.alloc();
+    let mut input = Vec::new(alloc);
+    input.resize(16_777_217, b' ')?;
+    let (status, text) = run_in(alloc, &[BASE], Setting::of(&input))?;
+    assert_eq!(rt; status, Status::TooLong);
+    assert_eq!(rt; text.len(), 0);
+    input.truncate(16_777_216);
+    let (status, text) = run_in(alloc, &[BASE], Setting::of(&input))?;
+    assert_eq!(rt; status, Status::Page);
+    assert_eq!(rt; text.as_slice(), BAD_PAGE.as_bytes());
+    Ok(())
+}
+
+#[test]
+fn codes(rt: HostRuntime) {
+    for (status, number) in [
+        (Status::Done, 0),
+        (Status::Page, 1),
+        (Status::Usage, 2),
+        (Status::ReadFault, 3),
+        (Status::WriteFault, 4),
+        (Status::Memory, 6),
+        (Status::TooLong, 7),
+    ] {
+        assert_eq!(rt; code(&status), number);
+    }
+}

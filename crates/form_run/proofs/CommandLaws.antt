@@ -1,5 +1,5 @@
 -- A line has the command that it spells, and no other.
-use Rattle.std.proofs.Common.{◌≡◌, ℕ, List, [], ◌∷◌, ◌++◌, Bool, true, false, length, Option, Some, None, cond, refl, ap, ◌∙◌, subst, eqb, arith}
+use Rattle.std.proofs.Common.{◌≡◌, ℕ, List, [], ◌∷◌, ◌++◌, Bool, true, false, length, Option, Some, None, Result, Ok, Err, IfOk, IfSome, cond, refl, sym, ap, ◌∙◌, subst, eqb, arith}
 use Rattle.std.specs.Option.{option_and_then}
 use Rattle.std.specs.Prelude.{bytes_eq, ◌&&◌}
 use Rattle.std.specs.List.{list_all}
@@ -66,3 +66,17 @@ line-found line command h = go (bytes_eq line enter_word) refl h
     go : (b : Bool) → bytes_eq line enter_word ≡ b → cond b (Some Enter) (set_command (text_set line)) ≡ Some command → Line line command
     go true e f = let P : Command → Type 0 = λ c. Line line c in let same : Enter ≡ command = cc in subst P same ((bytes_eq-Decides line enter_word).0 e)
     go false e f = set (text_set line) refl f
+
+-- what was read is what is spelled
+read-found : (line : List ℕ) (command : Option Command) → command ≡ command_in line → IfSome command (λ c. Line line c)
+read-found line (Some command) h = line-found line command (sym h)
+read-found line None h = tt
+
+pub parsed-found : {E : Type 0} (line : List ℕ) (r : Result (Option Command) E) → IfOk r (λ command. command ≡ command_in line) → IfOk r (λ command. IfSome command (λ c. Line line c))
+parsed-found line (Ok command) h = read-found line command h
+parsed-found line (Err e) h = tt
+
+-- what is spelled was read
+pub parsed-only : {E : Type 0} (line : List ℕ) (r : Result (Option Command) E) → IfOk r (λ command. command ≡ command_in line) → IfOk r (λ command. (c : Command) → Line line c → command ≡ Some c)
+parsed-only line (Ok command) h = λ c spelled. h ∙ line-again line c spelled
+parsed-only line (Err e) h = tt

@@ -1,5 +1,5 @@
 -- A text has the page that it spells, and no other.
-use Rattle.std.proofs.Common.{◌≡◌, ℕ, ◌<◌, ◌⊎◌, List, [], ◌∷◌, ◌++◌, Bool, true, false, length, Option, Some, None, cond, refl, sym, ap, ◌∙◌, subst, ltb, inl, inr, arith}
+use Rattle.std.proofs.Common.{◌≡◌, ℕ, ◌<◌, ◌⊎◌, List, [], ◌∷◌, ◌++◌, Bool, true, false, length, option_map, IfSome, Option, Some, None, cond, refl, sym, ap, ◌∙◌, subst, ltb, inl, inr, arith}
 use Rattle.std.specs.Option.{option_and_then}
 use Rattle.std.specs.Prelude.{bytes_eq, ◌&&◌, ◌||◌}
 use Rattle.std.specs.Char.{is_ascii_alphanumeric}
@@ -10,6 +10,8 @@ use Rattle.std.proofs.lemmas.Slice.Eq.{bytes_eq-Decides}
 use Rattle.std.proofs.lemmas.Option.{option_and_then_some}
 use Rattle.form_run.specs.Reading.{is_quote, quoted, behind}
 use Rattle.form_run.specs.Page.{PageData, Spells, first_page, form_start, input_start, required_word, required_text, page_end, is_page_end, is_action_character, page_of_parts, behind_if_there, after_name, after_input_start, after_action, after_form_start}
+use Rattle.form_run.specs.Opened.{plain}
+use Rattle.form_run.specs.declared.page.FirstPage.{FirstPage}
 use Rattle.form_run.proofs.ReadingLaws.{behind-again, behind-found, quoted-again, quoted-found, none-pass}
 
 action_no_quote : (b : ℕ) → is_action_character b ≡ true → is_quote b ≡ false
@@ -109,3 +111,8 @@ page-found text page h =
     option_and_then_some (after_input_start action.0) (behind input_start action.1) page in_action (λ (after_input : List ℕ) input in_input.
     option_and_then_some (after_name action.0) (quoted after_input) page in_input (λ (name : List ℕ × List ℕ) second last.
     spelled-by text after_form action.0 action.1 name.0 after_input name.1 page form first input second last))))
+
+-- what was read is what is spelled
+pub read-found : (text : List ℕ) (page : Option FirstPage) → option_map plain page ≡ first_page text → IfSome page (λ p. Spells text (plain p))
+read-found text (Some page) h = page-found text (plain page) (sym h)
+read-found text None h = tt

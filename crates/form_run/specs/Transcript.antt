@@ -7,7 +7,7 @@ use Rattle.url.specs.Parser.{parse_url}
 use Rattle.url.specs.Parts.{Parts}
 use Rattle.form_run.specs.Lines.{line_then}
 use Rattle.form_run.specs.Input.{page_text, command_lines}
-use Rattle.form_run.specs.Page.{PageData, first_page}
+use Rattle.form_run.specs.Page.{PageData, Spells, first_page}
 use Rattle.form_run.specs.Session.{opened, replies}
 use Rattle.form_run.specs.declared.top.Status.{Status}
 use Rattle.form_run.specs.declared.top.Status.TheVariants.{Done, Page, Usage, ReadFault, WriteFault, Memory, TooLong}
@@ -42,6 +42,12 @@ end_of (Some page) = Done
 
 abbrev pub expected_end : List ℕ → Status
 expected_end input = end_of (page_in input)
+
+-- With the end Done the input is a text whose page is spelled; with the end Page it is no text, or spells no page.
+abbrev pub PageIs : Status → List ℕ → Type 0
+PageIs Done input = (is_utf8 input ≡ true) × (page : PageData) × Spells (page_text input) page
+PageIs Page input = is_utf8 input ≡ true → (page : PageData) → Spells (page_text input) page → ⊥
+PageIs status input = Unit {0}
 
 -- ---- kinds of ends
 

@@ -1,7 +1,8 @@
 // The commands of a script.
-ghost use Rattle.std.specs.Prelude.{◌≡◌, IfOk, option_map, option_copied};
+ghost use Rattle.std.specs.Prelude.{◌≡◌, Some, IfOk, IfSome, option_copied};
 ghost use Rattle.std.specs.List.{list_all};
-ghost use Rattle.form_run.specs.Command.{command_in, text_set, is_text_character};
+ghost use Rattle.form_run.specs.Command.{Line, command_in, text_set, is_text_character};
+ghost use Rattle.form_run.specs.declared.command.Command.{Command};
 
 use crate::reading::{split_quoted, strip_word};
 use form_text::Text;
@@ -46,8 +47,17 @@ fn text_set(line: &str) -> Option<&str>
 }
 
 /// The command that the line spells; `None` where it spells none.
-#[tactic(auto, unfolding(crate::specs::Command::command_in))]
 pub fn parse_line(alloc: Global, line: &str) -> Result<Option<Command>, AllocError>
+    ensures found { IfOk result (λ command. IfSome command (λ c. Line line.now c)) }
+    ensures only { IfOk result (λ command. (c : Command) → Line line.now c → command ≡ Some c) }
+    ensures value { IfOk result (λ command. command ≡ command_in line.now) }
+{
+    read_line(alloc, line)
+}
+
+// The command of a line, read from the left.
+#[tactic(auto, unfolding(crate::specs::Command::command_in))]
+fn read_line(alloc: Global, line: &str) -> Result<Option<Command>, AllocError>
     ensures { IfOk result (λ command. command ≡ command_in line.now) }
 {
     if line == "enter @2" {

@@ -1,5 +1,5 @@
 // The page of one form with one text input.
-ghost use Rattle.std.specs.Prelude.{◌≡◌, option_map, option_copied, nat_eq};
+ghost use Rattle.std.specs.Prelude.{◌≡◌, Some, IfSome, option_map, option_copied};
 ghost use Rattle.std.specs.List.{list_all};
 ghost use Rattle.std.specs.Char.{is_ascii_alphanumeric};
 ghost use Rattle.form_run.specs.Page.{behind_if_there, is_action_character, required_word, is_page_end, first_page};
@@ -51,11 +51,21 @@ fn is_page_end(text: &str) -> bool
 }
 
 impl FirstPage<'_> {
+    ghost use Rattle.form_run.specs.Page.{PageData, Spells};
     ghost use Rattle.form_run.specs.Opened.{plain};
 
-    /// The page that the text spells.
-    #[tactic(auto, unfolding(crate::specs::Page::first_page))]
+    /// The page that the text spells; `None` where it spells none.
     pub fn read(text: &str) -> Option<FirstPage<'_>>
+        ensures found { IfSome result (λ page. Spells text.now (plain page)) }
+        ensures only { (page : PageData) → Spells text.now page → option_map plain result ≡ Some page }
+        ensures value { option_map plain result ≡ first_page text.now }
+    {
+        FirstPage::from_left(text)
+    }
+
+    // The page, read from the left.
+    #[tactic(auto, unfolding(crate::specs::Page::first_page))]
+    fn from_left(text: &str) -> Option<FirstPage<'_>>
         ensures { option_map plain result ≡ first_page text.now }
     {
         let Some(rest) = strip_word(text, "<form action=\"") else {

@@ -8,7 +8,7 @@ ghost use Rattle.form_run.specs.Input.{page_text, command_lines};
 ghost use Rattle.form_run.specs.Page.{first_page};
 ghost use Rattle.form_run.specs.Opened.{plain};
 ghost use Rattle.form_run.specs.Moved.{Gave, WrotePart};
-ghost use Rattle.form_run.specs.Transcript.{base_of, page_in, transcript, expected_text, expected_end, IsEnd, IsSilent, IsReadingEnd, IsWritingEnd, IsWhole, code_of};
+ghost use Rattle.form_run.specs.Transcript.{base_of, page_in, transcript, expected_text, expected_end, PageIs, IsEnd, IsSilent, IsReadingEnd, IsWritingEnd, IsWhole, code_of};
 
 use crate::input::split_script;
 use crate::moves::{ReadStop, TOO_MANY, read_all, write_all};
@@ -207,6 +207,9 @@ pub fn run<S: Source, K: Sink>(
     ensures part { IfSome (S.held source.old) (λ input.
         WrotePart (K.written sink.old) (K.written sink.new) (expected_text (base_of (map string_bytes words.now)) input)) }
     ensures silent { IsSilent result ≡ true → K.written sink.new ≡ K.written sink.old }
+
+    // With Done the page is one that is read, with Page it is none.
+    ensures page { IfSome (S.held source.old) (λ input. PageIs result input) }
 
     // Each ending has its cause; want of memory alone is free.
     ensures usage { result ≡ Status.Usage → base_of (map string_bytes words.now) ≡ None }

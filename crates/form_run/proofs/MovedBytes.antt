@@ -5,10 +5,6 @@ use Rattle.std.specs.Io.KnownBytes.{prepend_known, append_known}
 use Rattle.std.proofs.Math.Seq.{take-add}
 use Rattle.form_run.specs.Moved.{Gave, WrotePart, WroteUpTo}
 
-pub prepend_known-nil : (known : Option (List ℕ)) → known ≡ prepend_known [] known
-prepend_known-nil None = refl
-prepend_known-nil (Some xs) = refl
-
 pub prepend_known-prepend : (a b : List ℕ) (known : Option (List ℕ))
     → prepend_known a (prepend_known b known) ≡ prepend_known (a ++ b) known
 prepend_known-prepend a b None = refl
@@ -101,27 +97,7 @@ pub WroteUpTo-end : (written now : Option (List ℕ)) (text : List ℕ) → Wrot
 WroteUpTo-end written now text so_far =
     so_far.bytes ∙ ap (append_known written) (sym (append-nil so_far.front) ∙ sym so_far.whole)
 
--- what is written so far is a part
-pub WrotePart-so_far : (written now : Option (List ℕ)) (text rest : List ℕ) → WroteUpTo written now text rest
-    → WrotePart written now text
-WrotePart-so_far written now text rest so_far = record {
-  front = so_far.front;
-  rest = rest;
-  whole = so_far.whole;
-  bytes = so_far.bytes;
-}
-
 -- ---- parts of a text
-
--- nothing is a part of every text
-pub WrotePart-none : (written now : Option (List ℕ)) (text : List ℕ) → now ≡ written → WrotePart written now text
-WrotePart-none written now text same =
-    record { front = []; rest = text; whole = refl; bytes = same ∙ append_known-nil written }
-
--- the whole is a part
-pub WrotePart-whole : (written now : Option (List ℕ)) (text : List ℕ) → now ≡ append_known written text → WrotePart written now text
-WrotePart-whole written now text all =
-    record { front = text; rest = []; whole = sym (append-nil text); bytes = all }
 
 -- a part of the front
 pub WrotePart-front : (written now : Option (List ℕ)) (text piece more : List ℕ) → text ≡ piece ++ more
@@ -136,12 +112,6 @@ WrotePart-later written now after text piece more split here last =
     WroteUpTo-part written now after text more more []
     (WroteUpTo-more written written now text text piece more (WroteUpTo-start written text) split here)
     (sym (append-nil more)) last
-
--- nothing was written, whatever the input was
-pub WrotePart-silent : (held written now : Option (List ℕ)) (text_of : List ℕ → List ℕ) → now ≡ written
-    → IfSome held (λ input. WrotePart written now (text_of input))
-WrotePart-silent None written now text_of same = tt
-WrotePart-silent (Some input) written now text_of same = WrotePart-none written now (text_of input) same
 
 -- a front, and then the rest
 pub written-then : (written now after : Option (List ℕ)) (front rest : List ℕ) → now ≡ append_known written front → after ≡ append_known now rest → after ≡ append_known written (front ++ rest)

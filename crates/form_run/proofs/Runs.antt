@@ -1,13 +1,13 @@
 -- What a run knows of its input and its end.
-use Rattle.std.proofs.Common.{◌≡◌, ℕ, ◌<◌, ◌≤◌, length, arith, cond, Bool, List, ◌++◌, refl, sym, ap, subst, ◌∙◌, inl, inr, true, false, Some, None, IfSome, append-nil}
+use Rattle.std.proofs.Common.{◌≡◌, ℕ, ◌<◌, ◌≤◌, length, arith, cond, Bool, List, ◌++◌, refl, sym, ap, subst, ◌∙◌, inl, true, false, Some, None, IfSome, append-nil}
 use Rattle.std.specs.Prelude.{Option, ◌⊎◌, IsSome, is_some}
 use Rattle.std.specs.Str.{is_utf8}
-use Rattle.std.specs.Io.KnownBytes.{append_known, IsAtEnd}
+use Rattle.std.specs.Io.KnownBytes.{IsAtEnd}
 use Rattle.url.specs.Parts.{Parts}
 use Rattle.form_run.specs.Moved.{Gave}
 use Rattle.form_run.specs.declared.top.Status.{Status}
 use Rattle.form_run.specs.declared.top.Status.TheVariants.{Done, Page, Usage, ReadFault, WriteFault, Memory, TooLong}
-use Rattle.form_run.specs.Transcript.{expected_text, expected_end, end_of, PageIs, IsEnd, IsReadingEnd, IsWritingEnd, IsWhole}
+use Rattle.form_run.specs.Transcript.{expected_end, end_of, PageIs, IsEnd, IsReadingEnd, IsWhole}
 use Rattle.form_run.specs.Input.{page_text}
 use Rattle.form_run.specs.Page.{PageData, first_page}
 use Rattle.form_run.proofs.PageLaws.{page-again, page-found}
@@ -19,19 +19,6 @@ of_input held None before now input P gave at_end here =
 of_input held (Some rest) before now input P gave at_end here =
     let Q : Option (List ℕ) → Type 0 = λ h. IfSome h P in
     subst Q (sym (gave.held_is ∙ ap Some (ap (λ r. input ++ r) at_end ∙ append-nil input))) here
-
--- without a fault of the sink the transcript is whole, or memory was refused
-pub settled : (left written now : Option (List ℕ)) (base : Option Parts) (status : Status) (input : List ℕ) (Fault : Type 0) → IsAtEnd left
-    → (IsEnd status ≡ true → (status ≡ expected_end input) × (now ≡ append_known written (expected_text base input)))
-    → (status ≡ WriteFault → Fault) → IsWritingEnd status ≡ true → ¬ Fault
-    → (status ≡ Memory) ⊎ IsWhole left written now base status input
-settled left written now base Done input Fault at_end whole fault kind calm = inr (record { at_end = at_end; end = (whole refl).0; text = (whole refl).1 })
-settled left written now base Page input Fault at_end whole fault kind calm = inr (record { at_end = at_end; end = (whole refl).0; text = (whole refl).1 })
-settled left written now base WriteFault input Fault at_end whole fault kind calm = absurd (calm (fault refl))
-settled left written now base Memory input Fault at_end whole fault kind calm = inl refl
-settled left written now base Usage input Fault at_end whole fault kind calm = cc
-settled left written now base ReadFault input Fault at_end whole fault kind calm = cc
-settled left written now base TooLong input Fault at_end whole fault kind calm = cc
 
 -- without a fault of the source the input is read whole, or memory was refused
 pub stopped : (held left written now : Option (List ℕ)) (base : Option Parts) (status : Status) (Read Write : Type 0) → IsReadingEnd status ≡ true

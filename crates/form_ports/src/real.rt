@@ -1,5 +1,7 @@
 // The real ones, which tell no bytes: the trusted edge.
-ghost use Rattle.std.specs.Prelude.{◌≡◌, None};
+ghost use Rattle.std.specs.Prelude.{◌≡◌, ◌+◌, ◌<◌, None, length};
+ghost use Rattle.std.specs.Io.KnownBytes.{prepend_known, append_known, IsAtEnd};
+ghost use Rattle.form_ports.specs.Ports.{last_count, read_bytes, taken_bytes, GotWithin, TookWithin, ReadCounts, WriteCounts, read_count, write_count};
 ghost use Rattle.form_ports.specs.Real.{InputCounts};
 
 use crate::{Got, Sink, Source, Took};
@@ -40,7 +42,16 @@ impl<R: Input + Drop> Source for StdSource<R> {
 
     ghost faults = { λ s. s.faults };
 
-    fn read(&mut self, room: &mut [u8]) -> Got {
+    fn read(&mut self, room: &mut [u8]) -> Got
+        requires { 0 < length room.old }
+        ensures within { GotWithin result (length room.old) }
+        ensures bytes { None ≡ prepend_known (read_bytes result room.new) None }
+        ensures end { result ≡ Got.End → IsAtEnd None }
+        ensures given { self.new.given ≡ self.old.given + length (read_bytes result room.new) }
+        ensures faults { ReadCounts result self.old.faults self.new.faults }
+        ensures counts { self.new.faults ≡ read_count result self.old.faults }
+        ensures full { self.old.given ≡ last_count → result ≡ Got.Failed }
+    {
         let most = usize::min(room.len(), (u64::MAX - self.given) as usize);
         if most == 0 {
             self.failed = self.failed.saturating_add(1);
@@ -92,7 +103,13 @@ impl<R: Print + Drop> Sink for StdSink<R> {
 
     ghost faults = { λ faults. faults };
 
-    fn write(&mut self, piece: &[u8]) -> Took {
+    fn write(&mut self, piece: &[u8]) -> Took
+        requires { 0 < length piece.now }
+        ensures within { TookWithin result (length piece.now) }
+        ensures bytes { None ≡ append_known None (taken_bytes result piece.now) }
+        ensures faults { WriteCounts result self.old self.new }
+        ensures counts { self.new ≡ write_count result self.old }
+    {
         match self.runtime.write_some(piece) {
             Ok(0) | Err(_) => {
                 self.failed = self.failed.saturating_add(1);

@@ -1,9 +1,10 @@
 -- What a run knows of its input and its end.
-use Rattle.std.proofs.Common.{◌≡◌, ℕ, ◌<◌, ◌≤◌, length, arith, cond, Bool, List, ◌++◌, refl, sym, ap, subst, ◌∙◌, inl, true, false, Some, None, IfSome, append-nil}
+use Rattle.std.proofs.Common.{◌≡◌, ℕ, ◌≤◌, length, arith, cond, Bool, List, ◌++◌, refl, sym, ap, subst, ◌∙◌, inl, true, false, Some, None, IfSome, append-nil}
 use Rattle.std.specs.Prelude.{Option, ◌⊎◌, IsSome, is_some}
 use Rattle.std.specs.Str.{is_utf8}
 use Rattle.std.specs.Io.KnownBytes.{IsAtEnd}
 use Rattle.url.specs.Parts.{Parts}
+use Rattle.form_run.specs.Limits.{most_input, too_many}
 use Rattle.form_run.specs.Moved.{Gave}
 use Rattle.form_run.specs.declared.top.Status.{Status}
 use Rattle.form_run.specs.declared.top.Status.TheVariants.{Done, Page, Usage, ReadFault, WriteFault, Memory, TooLong}
@@ -22,13 +23,13 @@ of_input held (Some rest) before now input P gave at_end here =
 
 -- without a fault of the source the input is read whole, or memory was refused
 pub stopped : (held left written now : Option (List ℕ)) (base : Option Parts) (status : Status) (Read Write : Type 0) → IsReadingEnd status ≡ true
-    → (status ≡ Usage → base ≡ None) → (status ≡ ReadFault → Read) → (status ≡ TooLong → IfSome held (λ input. 16777217 ≤ length input))
-    → IsSome base → IfSome held (λ input. length input < 16777217 → ¬ Read → ¬ Write → (status ≡ Memory) ⊎ IsWhole left written now base status input)
+    → (status ≡ Usage → base ≡ None) → (status ≡ ReadFault → Read) → (status ≡ TooLong → IfSome held (λ input. too_many ≤ length input))
+    → IsSome base → IfSome held (λ input. length input ≤ most_input → ¬ Read → ¬ Write → (status ≡ Memory) ⊎ IsWhole left written now base status input)
 stopped None left written now base status Read Write kind usage fault long there = tt
 stopped (Some input) left written now base status Read Write kind usage fault long there = λ short calm silent. go status kind usage fault long short calm
   where
-    go : (status : Status) → IsReadingEnd status ≡ true → (status ≡ Usage → base ≡ None) → (status ≡ ReadFault → Read) → (status ≡ TooLong → 16777217 ≤ length input)
-        → length input < 16777217 → ¬ Read → (status ≡ Memory) ⊎ IsWhole left written now base status input
+    go : (status : Status) → IsReadingEnd status ≡ true → (status ≡ Usage → base ≡ None) → (status ≡ ReadFault → Read) → (status ≡ TooLong → too_many ≤ length input)
+        → length input ≤ most_input → ¬ Read → (status ≡ Memory) ⊎ IsWhole left written now base status input
     go Usage kind usage fault long short calm = let P : Option Parts → Type 0 = λ o. is_some o ≡ true in let none : false ≡ true = subst P (usage refl) there in cc
     go ReadFault kind usage fault long short calm = absurd (calm (fault refl))
     go TooLong kind usage fault long short calm = let much = long refl in absurd (omega (arith, much))

@@ -2,13 +2,14 @@
 ghost use Rattle.std.specs.Prelude.{◌≡◌, ℕ, ◌+◌, ◌<◌, ◌≤◌, ◌-◌, List, length, take, drop, IfOk, IfSome, OnOk, OnErr, vec_len};
 ghost use Rattle.std.specs.Io.KnownBytes.{prepend_known, append_known, IsAtEnd};
 ghost use Rattle.form_ports.specs.Ports.{Rose, GotWithin, ReadCounts, read_bytes};
+ghost use Rattle.form_run.specs.Limits.{most_input, too_many};
 ghost use Rattle.form_run.specs.Moved.{Gave, WrotePart};
 
 use form_ports::{Got, Sink, Source, Took};
 use std::alloc::{AllocError, Global};
 
 /// One byte more than an input may have.
-pub const TOO_MANY: usize = 16_777_217;
+const TOO_MANY: usize = 16_777_217;
 
 /// How many bytes a read is offered at least, but for the last bytes that an input may have.
 const PIECE: usize = 65_536;
@@ -25,10 +26,10 @@ pub enum ReadStop {
 // moved more than a few times.
 fn make_room(text: &mut Vec<u8>, done: usize) -> Result<(), AllocError>
     requires within { done ≤ vec_len text.old }
-    requires few { done < TOO_MANY }
-    requires most { vec_len text.old ≤ TOO_MANY }
+    requires few { done < too_many }
+    requires most { vec_len text.old ≤ too_many }
     ensures room { OnOk result (done < vec_len text.new) }
-    ensures most { OnOk result (vec_len text.new ≤ TOO_MANY) }
+    ensures most { OnOk result (vec_len text.new ≤ too_many) }
     ensures front { OnOk result (take done text.new.items ≡ take done text.old.items) }
 {
     let want = usize::min(done + PIECE, TOO_MANY);
@@ -58,11 +59,12 @@ pub fn read_all<S: Source>(alloc: Global, source: &mut S) -> Result<Vec<u8>, Rea
     ensures whole { IfOk result (λ text.
         Gave (S.held source.old) (S.held source.new) (S.given source.old) (S.given source.new) text.items) }
     ensures end { OnOk result (IsAtEnd (S.held source.new)) }
-    ensures short { IfOk result (λ text. length text.items < TOO_MANY) }
-    ensures too_long { result ≡ Err ReadStop.TooLong → S.given source.new ≡ S.given source.old + TOO_MANY }
-    ensures long { result ≡ Err ReadStop.TooLong → IfSome (S.held source.old) (λ input. TOO_MANY ≤ length input) }
+    ensures short { IfOk result (λ text. length text.items ≤ most_input) }
+    ensures most { S.given source.new ≤ S.given source.old + too_many }
+    ensures too_long { result ≡ Err ReadStop.TooLong → S.given source.new ≡ S.given source.old + too_many }
+    ensures long { result ≡ Err ReadStop.TooLong → IfSome (S.held source.old) (λ input. too_many ≤ length input) }
     ensures fault { result ≡ Err ReadStop.Fault → Rose (S.faults source.old) (S.faults source.new) }
-    ensures fault_short { result ≡ Err ReadStop.Fault → S.given source.new < S.given source.old + TOO_MANY }
+    ensures fault_short { result ≡ Err ReadStop.Fault → S.given source.new < S.given source.old + too_many }
     ensures later { S.faults source.old ≤ S.faults source.new }
 {
     let mut text: Vec<u8> = Vec::new(alloc);

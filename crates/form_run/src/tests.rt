@@ -269,18 +269,29 @@ fn a_sink_that_is_full(rt: HostRuntime) -> Result<(), Fail> {
     Ok(())
 }
 
+// The number of bytes of an input, and the status.
+const SIZES: [(usize, Status); 3] = [
+    (16_777_218, Status::TooLong),
+    (16_777_217, Status::TooLong),
+    (16_777_216, Status::Page),
+];
+
 #[test]
 fn inputs_at_the_limit(rt: HostRuntime) -> Result<(), Fail> {
     let alloc = rt.alloc();
     let mut input = Vec::new(alloc);
-    input.resize(16_777_217, b' ')?;
-    let (status, text) = run_in(alloc, &[BASE], Setting::of(&input))?;
-    assert_eq!(rt; status, Status::TooLong);
-    assert_eq!(rt; text.len(), 0);
-    input.truncate(16_777_216);
-    let (status, text) = run_in(alloc, &[BASE], Setting::of(&input))?;
-    assert_eq!(rt; status, Status::Page);
-    assert_eq!(rt; text.as_slice(), BAD_PAGE.as_bytes());
+    input.resize(16_777_218, b' ')?;
+    for (size, expected) in SIZES {
+        input.truncate(size);
+        let (status, text) = run_in(alloc, &[BASE], Setting::of(&input))?;
+        assert_eq!(rt; status, expected);
+        let line = if expected == Status::Page {
+            BAD_PAGE
+        } else {
+            ""
+        };
+        assert_eq!(rt; text.as_slice(), line.as_bytes());
+    }
     Ok(())
 }
 

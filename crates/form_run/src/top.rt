@@ -7,11 +7,12 @@ ghost use Rattle.form_run.specs.Lines.{lines_of};
 ghost use Rattle.form_run.specs.Input.{page_text, command_lines};
 ghost use Rattle.form_run.specs.Page.{first_page};
 ghost use Rattle.form_run.specs.Opened.{plain};
+ghost use Rattle.form_run.specs.Limits.{most_input, too_many};
 ghost use Rattle.form_run.specs.Moved.{Gave, WrotePart};
 ghost use Rattle.form_run.specs.Transcript.{base_of, page_in, transcript, expected_text, expected_end, PageIs, IsEnd, IsSilent, IsReadingEnd, IsWritingEnd, IsWhole, code_of};
 
 use crate::input::split_script;
-use crate::moves::{ReadStop, TOO_MANY, read_all, write_all};
+use crate::moves::{ReadStop, read_all, write_all};
 use crate::page::FirstPage;
 use crate::replying::{Stop, serve_all};
 use crate::session::Session;
@@ -154,7 +155,7 @@ fn open<S: Source>(
     source: &mut S,
 ) -> Result<(Url, Vec<u8>), Status>
     ensures base { IfOk result (λ opened. base_of (map string_bytes words.now) ≡ Some opened.0) }
-    ensures input { IfOk result (λ opened. (length opened.1.items < TOO_MANY)
+    ensures input { IfOk result (λ opened. (length opened.1.items ≤ most_input)
         × Gave (S.held source.old) (S.held source.new) (S.given source.old) (S.given source.new) opened.1.items) }
     ensures at_end { OnOk result (IsAtEnd (S.held source.new)) }
     ensures kinds { IfErr result (λ status. IsReadingEnd status ≡ true) }
@@ -162,10 +163,11 @@ fn open<S: Source>(
     ensures only_usage { base_of (map string_bytes words.now) ≡ None → (result ≡ Err Status.Usage) ⊎ (result ≡ Err Status.Memory) }
     ensures unread { result ≡ Err Status.Usage → (S.given source.new ≡ S.given source.old) × (S.held source.new ≡ S.held source.old) }
     ensures read_fault { result ≡ Err Status.ReadFault → Rose (S.faults source.old) (S.faults source.new) }
-    ensures too_long { result ≡ Err Status.TooLong → S.given source.new ≡ S.given source.old + TOO_MANY }
-    ensures long { result ≡ Err Status.TooLong → IfSome (S.held source.old) (λ input. TOO_MANY ≤ length input) }
-    ensures only_too_long { S.given source.new ≡ S.given source.old + TOO_MANY
+    ensures too_long { result ≡ Err Status.TooLong → S.given source.new ≡ S.given source.old + too_many }
+    ensures long { result ≡ Err Status.TooLong → IfSome (S.held source.old) (λ input. too_many ≤ length input) }
+    ensures only_too_long { S.given source.new ≡ S.given source.old + too_many
         → (result ≡ Err Status.TooLong) ⊎ (result ≡ Err Status.Memory) }
+    ensures most { S.given source.new ≤ S.given source.old + too_many }
     ensures later { S.faults source.old ≤ S.faults source.new }
 {
     let base = match base(alloc, words) {
@@ -217,20 +219,22 @@ pub fn run<S: Source, K: Sink>(
     ensures unread { result ≡ Status.Usage → (S.given source.new ≡ S.given source.old) × (S.held source.new ≡ S.held source.old) }
     ensures read_fault { result ≡ Status.ReadFault → Rose (S.faults source.old) (S.faults source.new) }
     ensures write_fault { result ≡ Status.WriteFault → Rose (K.faults sink.old) (K.faults sink.new) }
-    ensures too_long { result ≡ Status.TooLong → S.given source.new ≡ S.given source.old + TOO_MANY }
-    ensures only_too_long { S.given source.new ≡ S.given source.old + TOO_MANY
+    ensures too_long { result ≡ Status.TooLong → S.given source.new ≡ S.given source.old + too_many }
+    ensures only_too_long { S.given source.new ≡ S.given source.old + too_many
         → (result ≡ Status.TooLong) ⊎ (result ≡ Status.Memory) }
+
+    // No more is read than tells that the input is too long.
+    ensures most { S.given source.new ≤ S.given source.old + too_many }
 
     // Where no count rose and the bytes are told, the whole transcript is written, or memory was refused.
     ensures complete { IsSome (base_of (map string_bytes words.now)) → IfSome (S.held source.old) (λ input.
-        length input < TOO_MANY
+        length input ≤ most_input
         → ¬ (Rose (S.faults source.old) (S.faults source.new)) → ¬ (Rose (K.faults sink.old) (K.faults sink.new))
         → (result ≡ Status.Memory)
         ⊎ IsWhole (S.held source.new) (K.written sink.old) (K.written sink.new) (base_of (map string_bytes words.now)) result input) }
     ensures later { (S.faults source.old ≤ S.faults source.new) × (K.faults sink.old ≤ K.faults sink.new) }
     ensures shelf { shelf.new.items ≡ shelf.old.items }
 {
-    let _ = shelf.len();
     match open(alloc, words, source) {
         Ok((base, input)) => transcribe(alloc, base, &input, sink),
         Err(status) => status,

@@ -1,4 +1,5 @@
 use Rattle.std.proofs.Common.{◌≤◌, ◌-◌, take, vec_len}
+use Rattle.form_run.specs.Limits.{too_many}
 use Rattle.form_run.specs.Moved.{Gave}
 use Rattle.form_run.proofs.moves.read_all.Given as goal
 
@@ -8,9 +9,9 @@ invariant-reading g l =
     Gave (g.S.Source.held l.initial.source) (g.S.Source.held l.source) (g.S.Source.given l.initial.source)
     (g.S.Source.given l.source) (take l.done l.text.items)
     × (l.done ≤ vec_len l.text)
-    × (l.done ≤ 16777217)
-    × (vec_len l.text ≤ 16777217)
+    × (l.done ≤ too_many)
+    × (vec_len l.text ≤ too_many)
     × (g.S.Source.faults l.initial.source ≤ g.S.Source.faults l.source)
 
 abbrev pub decreases-reading : goal.decreases-reading
-decreases-reading g l = 16777217 - l.done
+decreases-reading g l = too_many - l.done

@@ -7,18 +7,20 @@ use Rattle.std.proofs.lemmas.Bool.{and_parts}
 use Rattle.std.proofs.lemmas.Bool.Decides.{nat_tests}
 use Rattle.std.proofs.lemmas.Slice.Eq.{bytes_eq-Decides}
 use Rattle.std.proofs.lemmas.Option.{option_and_then_some}
-use Rattle.form_run.specs.Reading.{is_quote, quoted, behind}
+use Rattle.form_run.specs.Reading.{is_quote, quoted}
+use Rattle.form_text.specs.Front.{behind}
 use Rattle.form_run.specs.Command.{Line, command_in, enter_word, set_word, set_by, set_command, text_set, is_text_character}
 use Rattle.form_run.specs.declared.command.Command.{Command}
 use Rattle.form_run.specs.declared.command.Command.TheVariants.{Enter, Set}
-use Rattle.form_run.proofs.ReadingLaws.{behind-again, behind-found, quoted-again, quoted-found, none-pass}
+use Rattle.form_text.proofs.Laws.{behind_again, behind_found}
+use Rattle.form_run.proofs.ReadingLaws.{quoted-again, quoted-found, none-pass}
 
 text_no_quote : (b : ℕ) → is_text_character b ≡ true → is_quote b ≡ false
 text_no_quote b h = grind (arith, nat_tests)
 
 text_set-again : (text : List ℕ) → list_all is_text_character text ≡ true → text_set (set_word ++ (text ++ 34 ∷ [])) ≡ Some text
 text_set-again text all =
-    ap (option_and_then (λ rest. option_and_then set_by (quoted rest))) (behind-again set_word (text ++ 34 ∷ []))
+    ap (option_and_then (λ rest. option_and_then set_by (quoted rest))) (behind_again set_word (text ++ 34 ∷ []))
     ∙ ap (option_and_then set_by) (quoted-again text [] (none-pass is_text_character is_quote text_no_quote text all))
     ∙ simp all
 
@@ -49,7 +51,7 @@ text_set-found line text h =
     option_and_then_some (λ (rest : List ℕ). option_and_then set_by (quoted rest)) (behind set_word line) text h (λ (rest : List ℕ) word in_rest.
     option_and_then_some set_by (quoted rest) text in_rest (λ (parts : List ℕ × List ℕ) quote last.
     let found = set_by-found parts text last in (
-      behind-found set_word line rest word
+      behind_found set_word line rest word
           ∙ ap (λ r. set_word ++ r) (quoted-found rest parts.0 parts.1 quote ∙ ap (λ p. p ++ 34 ∷ parts.1) found.0 ∙ ap (λ r. text ++ 34 ∷ r) found.1),
       found.2,
     )))

@@ -9,4 +9,3 @@ pub mod Replies
 pub mod Runs
 pub mod ScriptLines
 pub mod Texts
-pub mod Words

@@ -8,11 +8,13 @@ use Rattle.std.proofs.lemmas.Bool.{and_parts, ltb-true, lt-ltb}
 use Rattle.std.proofs.lemmas.Bool.Decides.{nat_tests}
 use Rattle.std.proofs.lemmas.Slice.Eq.{bytes_eq-Decides}
 use Rattle.std.proofs.lemmas.Option.{option_and_then_some}
-use Rattle.form_run.specs.Reading.{is_quote, quoted, behind}
+use Rattle.form_run.specs.Reading.{is_quote, quoted}
+use Rattle.form_text.specs.Front.{behind}
 use Rattle.form_run.specs.Page.{PageData, Spells, first_page, form_start, input_start, required_word, required_text, page_end, is_page_end, is_action_character, page_of_parts, behind_if_there, after_name, after_input_start, after_action, after_form_start}
 use Rattle.form_run.specs.Opened.{plain}
 use Rattle.form_run.specs.declared.page.FirstPage.{FirstPage}
-use Rattle.form_run.proofs.ReadingLaws.{behind-again, behind-found, quoted-again, quoted-found, none-pass}
+use Rattle.form_text.proofs.Laws.{behind_again, behind_found}
+use Rattle.form_run.proofs.ReadingLaws.{quoted-again, quoted-found, none-pass}
 
 action_no_quote : (b : ℕ) → is_action_character b ≡ true → is_quote b ≡ false
 action_no_quote b h = grind (arith, nat_tests)
@@ -39,9 +41,9 @@ page-again text page spells =
     let name_rest = page.name ++ 34 ∷ tail in
     let action_rest = page.action ++ 34 ∷ (input_start ++ name_rest) in
     ap (λ t. option_and_then after_form_start (behind form_start t)) spells.spelled
-    ∙ ap (option_and_then after_form_start) (behind-again form_start action_rest)
+    ∙ ap (option_and_then after_form_start) (behind_again form_start action_rest)
     ∙ ap (option_and_then after_action) (quoted-again page.action (input_start ++ name_rest) (none-pass is_action_character is_quote action_no_quote page.action spells.action))
-    ∙ ap (option_and_then (after_input_start page.action)) (behind-again input_start name_rest)
+    ∙ ap (option_and_then (after_input_start page.action)) (behind_again input_start name_rest)
     ∙ ap (option_and_then (after_name page.action)) (quoted-again page.name tail (none-pass is_ascii_alphanumeric is_quote name_no_quote page.name spells.name))
     ∙ ap (page_of_parts page.action page.name) end.0
     ∙ parts-again page spells.ending spells.action spells.name spells.some_name end.1
@@ -81,7 +83,7 @@ rest-found rest h = go (behind required_word rest) refl h
     go : (o : Option (List ℕ)) → behind required_word rest ≡ o → is_page_end (behind_if_there rest o).1 ≡ true → (ending : List ℕ) × ((ending ≡ []) ⊎ (ending ≡ 10 ∷ [])) × (rest ≡ required_text (behind_if_there rest o).0 ++ (page_end ++ ending))
     go (Some after) e f =
         let end = end-found after f in
-        (end.0, end.1, behind-found required_word rest after e ∙ ap (λ r. required_word ++ r) end.2)
+        (end.0, end.1, behind_found required_word rest after e ∙ ap (λ r. required_word ++ r) end.2)
     go None e f = end-found rest f
 
 spelled-by : (text after_form action after_action_text name : List ℕ) (after_input rest : List ℕ) (page : PageData) → behind form_start text ≡ Some after_form → quoted after_form ≡ Some (action, after_action_text) → behind input_start after_action_text ≡ Some after_input → quoted after_input ≡ Some (name, rest) → after_name action (name, rest) ≡ Some page → Spells text page
@@ -92,9 +94,9 @@ spelled-by text after_form action after_action_text name after_input rest page f
     subst P parts.page_is (record {
       ending = end.0;
       ends = end.1;
-      spelled = behind-found form_start text after_form form
+      spelled = behind_found form_start text after_form form
           ∙ ap (λ r. form_start ++ r) (quoted-found after_form action after_action_text first)
-          ∙ ap (λ r. form_start ++ (action ++ 34 ∷ r)) (behind-found input_start after_action_text after_input input)
+          ∙ ap (λ r. form_start ++ (action ++ 34 ∷ r)) (behind_found input_start after_action_text after_input input)
           ∙ ap (λ r. form_start ++ (action ++ 34 ∷ (input_start ++ r))) (quoted-found after_input name rest second)
           ∙ ap (λ r. form_start ++ (action ++ 34 ∷ (input_start ++ (name ++ 34 ∷ r)))) end.2;
       action = parts.action_is;

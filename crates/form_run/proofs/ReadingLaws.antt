@@ -1,32 +1,11 @@
 -- What is read from the left is what stands there, and what stands there is read.
-use Rattle.std.proofs.Common.{◌≡◌, ℕ, List, [], ◌∷◌, ◌++◌, Bool, true, false, length, drop, get_or, Option, Some, None, cond, refl, ap, ◌∙◌, nat_eq, ltb, arith, length-append}
-use Rattle.std.specs.List.{list_all, list_any, starts_with, position_or_len, before_first, after_first}
+use Rattle.std.proofs.Common.{◌≡◌, ℕ, List, [], ◌∷◌, ◌++◌, Bool, true, false, length, get_or, Option, Some, None, cond, refl, ap, ◌∙◌, ltb, arith, length-append}
+use Rattle.std.specs.List.{list_all, list_any, position_or_len, before_first, after_first}
 use Rattle.std.proofs.lemmas.Bool.{and_parts, ltb-true, lt-ltb, not-false, eqb-true}
-use Rattle.std.proofs.lemmas.Bool.Decides.{Decides-eqb}
-use Rattle.std.proofs.lemmas.Slice.Eq.{starts_is}
-use Rattle.std.proofs.Math.Seq.{drop-append_seam}
 use Rattle.std.proofs.lemmas.List.Sums.{split_at_first, prefix_len_stops}
-use Rattle.form_run.specs.Reading.{is_quote, quoted, behind}
+use Rattle.std.proofs.lemmas.Option.{same_Some}
+use Rattle.form_run.specs.Reading.{is_quote, quoted}
 use Rattle.form_run.proofs.FirstPassing.{before-front, after-front, position-front}
-
-some_same : {A : Type 0} (x y : A) → Some x ≡ Some y → x ≡ y
-some_same x y h = cc
-
--- a word is read
-pub behind-again : (word rest : List ℕ) → behind word (word ++ rest) ≡ Some rest
-behind-again word rest =
-    let tells = starts_is Decides-eqb (word ++ rest) word (starts_with nat_eq (word ++ rest) word) refl in
-    let found : starts_with nat_eq (word ++ rest) word ≡ true = tells.1 rest refl in
-    let cut : drop (length word) (word ++ rest) ≡ rest = drop-append_seam word rest in
-    simp found (ap Some cut)
-
--- what was read stands there
-pub behind-found : (word text rest : List ℕ) → behind word text ≡ Some rest → text ≡ word ++ rest
-behind-found word text rest h = go (starts_with nat_eq text word) refl h
-  where
-    go : (b : Bool) → starts_with nat_eq text word ≡ b → cond b (Some (drop (length word) text)) None ≡ Some rest → text ≡ word ++ rest
-    go true e f = (starts_is Decides-eqb text word (starts_with nat_eq text word) refl).0 e ∙ ap (λ r. word ++ r) (some_same _ _ f)
-    go false e f = cc
 
 -- where all pass one test, none passes another that excludes it
 pub none-pass : (p q : ℕ → Bool) → ((b : ℕ) → p b ≡ true → q b ≡ false) → (bytes : List ℕ) → list_all p bytes ≡ true → list_any q bytes ≡ false
@@ -55,7 +34,7 @@ quoted-found text part rest h = go (ltb (position_or_len is_quote text) (length 
         let within = ltb-true _ _ e in
         let quote : get_or text (position_or_len is_quote text) 0 ≡ 34 =
         eqb-true _ 34 (not-false (is_quote (get_or text (position_or_len is_quote text) 0)) (prefix_len_stops _ text 0 within)) in
-        let same : ◌≡◌ {A = List ℕ × List ℕ} (before_first is_quote text, after_first is_quote text) (part, rest) = some_same _ _ f in
+        let same : ◌≡◌ {A = List ℕ × List ℕ} (before_first is_quote text, after_first is_quote text) (part, rest) = same_Some _ _ f in
         let front : before_first is_quote text ≡ part = ap (λ (p : List ℕ × List ℕ). p.0) same in
         let back : after_first is_quote text ≡ rest = ap (λ (p : List ℕ × List ℕ). p.1) same in
         split_at_first is_quote text 0 within ∙ cc (quote, front, back)

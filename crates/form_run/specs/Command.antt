@@ -2,7 +2,8 @@
 use Rattle.std.specs.Prelude.{◌≡◌, ℕ, List, [], ◌∷◌, ◌++◌, length, codes, Bool, true, ◌==◌, ◌||◌, ◌&&◌, not, nat_le, bytes_eq, if◌then◌else◌, Option, Some, None}
 use Rattle.std.specs.Option.{option_and_then}
 use Rattle.std.specs.List.{list_all}
-use Rattle.form_run.specs.Reading.{behind, quoted}
+use Rattle.form_text.specs.Front.{behind}
+use Rattle.form_run.specs.Reading.{quoted}
 use Rattle.form_run.specs.declared.command.Command.{Command}
 use Rattle.form_run.specs.declared.command.Command.TheVariants.{Enter, Set}
 

@@ -3,7 +3,8 @@ use Rattle.std.specs.Prelude.{◌≡◌, ℕ, List, [], ◌∷◌, ◌++◌, len
 use Rattle.std.specs.Option.{option_and_then}
 use Rattle.std.specs.Char.{is_ascii_alphanumeric}
 use Rattle.std.specs.List.{list_all}
-use Rattle.form_run.specs.Reading.{behind, quoted}
+use Rattle.form_text.specs.Front.{behind}
+use Rattle.form_run.specs.Reading.{quoted}
 
 -- what the page says: the form's action, the input's name, and whether the input is required
 pub record PageData : Type 0 where

@@ -4,8 +4,8 @@ ghost use Rattle.std.specs.List.{list_all};
 ghost use Rattle.form_run.specs.Command.{Line, command_in, text_set, is_text_character};
 ghost use Rattle.form_run.specs.declared.command.Command.{Command};
 
-use crate::reading::{split_quoted, strip_word};
-use form_text::Text;
+use crate::reading::split_quoted;
+use form_text::{Text, behind};
 use std::alloc::{AllocError, Global};
 
 /// What a line asks for.
@@ -34,7 +34,7 @@ fn is_text(text: &str) -> bool
 fn text_set(line: &str) -> Option<&str>
     ensures { option_copied result ≡ text_set line.now }
 {
-    let Some(rest) = strip_word(line, "set @2 \"") else {
+    let Some(rest) = behind(line, "set @2 \"") else {
         return None;
     };
     let Some((text, rest)) = split_quoted(rest) else {
@@ -64,7 +64,7 @@ fn read_line(alloc: Global, line: &str) -> Result<Option<Command>, AllocError>
         return Ok(Some(Command::Enter));
     }
     match text_set(line) {
-        Some(text) => Ok(Some(Command::Set(Text::from_string(String::from_str(alloc, text)?)))),
+        Some(text) => Ok(Some(Command::Set(Text::from_str(alloc, text)?))),
         None => Ok(None),
     }
 }

@@ -1,5 +1,5 @@
 // The elements of a page.
-ghost use Rattle.std.specs.Prelude.{◌≡◌, ◌∷◌, [], codes, IfOk};
+ghost use Rattle.std.specs.Prelude.{◌≡◌, ◌∷◌, codes, IfOk};
 ghost use Rattle.form_tree.specs.Tree.{IsTreeOfRaws};
 ghost use Rattle.form_run.specs.Opened.{plain, raws_of, required_attr};
 
@@ -8,18 +8,12 @@ use form_text::{Sequence, Text};
 use form_tree::{Raw, Tag};
 use std::alloc::{AllocError, Global};
 
-fn text_of(alloc: Global, text: &str) -> Result<Text, AllocError>
-    ensures { IfOk result (λ t. t ≡ text.now) }
-{
-    Ok(Text::from_string(String::from_str(alloc, text)?))
-}
-
 // One attribute.
 fn attr(alloc: Global, name: &str, value: &str) -> Result<(Text, Text), AllocError>
     ensures { IfOk result (λ a. a ≡ (name.now, value.now)) }
 {
-    let name = text_of(alloc, name)?;
-    let value = text_of(alloc, value)?;
+    let name = Text::from_str(alloc, name)?;
+    let value = Text::from_str(alloc, value)?;
     Ok((name, value))
 }
 
@@ -45,13 +39,13 @@ pub fn raws_of(alloc: Global, page: &FirstPage<'_>) -> Result<Vec<Raw>, AllocErr
         parent: None,
         tag: Tag::Form,
         attrs: Sequence::from_vec(vec![in alloc; action]?),
-        text: text_of(alloc, "")?,
+        text: Text::from_str(alloc, "")?,
     };
     let input = Raw {
         parent: Some(0),
         tag: Tag::Input,
         attrs: input_attrs(alloc, page)?,
-        text: text_of(alloc, "")?,
+        text: Text::from_str(alloc, "")?,
     };
     Ok(vec![in alloc; form, input]?)
 }

@@ -1,11 +1,12 @@
 // The page of one form with one text input.
-ghost use Rattle.std.specs.Prelude.{◌≡◌, Some, IfSome, option_map, option_copied};
+ghost use Rattle.std.specs.Prelude.{◌≡◌, Some, IfSome, option_map};
 ghost use Rattle.std.specs.List.{list_all};
 ghost use Rattle.std.specs.Char.{is_ascii_alphanumeric};
 ghost use Rattle.form_run.specs.Page.{behind_if_there, is_action_character, required_word, is_page_end, first_page};
-ghost use Rattle.form_run.specs.Reading.{behind};
+ghost use Rattle.form_text.specs.Front.{behind};
 
-use crate::reading::{split_quoted, strip_word};
+use crate::reading::split_quoted;
+use form_text::behind;
 
 /// What the page says: the form's action, the input's name, and whether the input is required.
 #[derive(Clone, Copy, Debug)]
@@ -19,7 +20,7 @@ pub struct FirstPage<'a> {
 fn strip_required(text: &str) -> (bool, &str)
     ensures { (result.0, result.1.now) ≡ behind_if_there text.now (behind required_word text.now) }
 {
-    match strip_word(text, " required") {
+    match behind(text, " required") {
         Some(rest) => (true, rest),
         None => (false, text),
     }
@@ -68,13 +69,13 @@ impl FirstPage<'_> {
     fn from_left(text: &str) -> Option<FirstPage<'_>>
         ensures { option_map plain result ≡ first_page text.now }
     {
-        let Some(rest) = strip_word(text, "<form action=\"") else {
+        let Some(rest) = behind(text, "<form action=\"") else {
             return None;
         };
         let Some((action, rest)) = split_quoted(rest) else {
             return None;
         };
-        let Some(rest) = strip_word(rest, "><input name=\"") else {
+        let Some(rest) = behind(rest, "><input name=\"") else {
             return None;
         };
         let Some((name, rest)) = split_quoted(rest) else {

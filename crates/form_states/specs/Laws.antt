@@ -8,7 +8,7 @@ use Rattle.std.specs.List.{list_all}
 use Rattle.std.specs.Char.{to_ascii_lowercase, is_ascii_hexdigit}
 use Rattle.form_text.specs.LineEnds.{without_newlines}
 use Rattle.form_text.specs.Whitespace.{stripped}
-use Rattle.form_text.proofs.WhitespaceLaws.{without_newlines_again, stripped_again, stripped_keeps_none}
+use Rattle.form_text.proofs.Laws.{without_newlines_again, stripped_again, stripped_keeps_none}
 use Rattle.form_calendar.specs.LocalDateTime.{local_number, local_text}
 use Rattle.form_types.specs.declared.kind.Kind.{Kind}
 use Rattle.form_types.specs.declared.kind.Kind.TheVariants as kinds

@@ -1,6 +1,9 @@
-pub mod LineEndLaws
-pub mod NumberLaws
-pub mod PlaceLaws
-pub mod UnitLaws
-pub mod WhitespaceLaws
-pub mod WordLaws
+mod FrontLaws
+pub mod Laws
+mod LineEndLaws
+mod NumberLaws
+mod PlaceLaws
+mod UnitLaws
+mod ValueLaws
+mod WhitespaceLaws
+mod WordLaws

@@ -76,10 +76,7 @@ ends_lf text = same (with_lf text)
     same [] = refl
     same (b ∷ ys) = one b (eqb b 10) refl _ ys (same ys)
 
--- behind a CR, with an LF and without
-pub behind_lf : (newline : ℕ) (rest behind : List ℕ) → newline ≡ 13 → rest ≡ 10 ∷ behind → behind ≡ behind_newline newline rest
-behind_lf newline rest behind cr is = rw (cr, is) refl
-
+-- behind a CR that no LF follows
 pub behind_other : (newline : ℕ) (rest : List ℕ) → newline ≡ 13 → ((behind : List ℕ) → rest ≢ 10 ∷ behind) → rest ≡ behind_newline newline rest
 behind_other newline [] cr other = rw cr refl
 behind_other newline (b ∷ rest) cr other = elim (cases_Bool (eqb b 10)) [

@@ -3,18 +3,21 @@ use Rattle.std.specs.Char.{is_ascii_digit}
 use Rattle.std.specs.List.{take_while}
 use Rattle.std.specs.Option.{option_map, option_and_then}
 use Rattle.std.specs.Str.Parse.{digits_value}
+use Rattle.form_text.specs.Bytes.{hyphen, plus_sign}
 use Rattle.form_text.specs.Whitespace.{without_leading_whitespace}
 
 -- the whole number of the longest run of digits at the front; an error where there is no digit
 abbrev pub leading_number : List ℕ → Option ℕ
-leading_number text = if length (take_while is_ascii_digit text) == 0 then None else Some (digits_value 10 (take_while is_ascii_digit text))
+leading_number text =
+    if length (take_while is_ascii_digit text) == 0 then None
+    else Some (digits_value 10 (take_while is_ascii_digit text))
 
 -- the number behind an optional sign
 abbrev pub signed_number : List ℕ → Option ℤ
 signed_number [] = None
 signed_number (c ∷ rest) =
-    if c == 45 then option_map (λ n. neg_ℤ (pos n)) (leading_number rest)
-    else option_map pos (leading_number (if c == 43 then rest else c ∷ rest))
+    if c == hyphen then option_map (λ n. neg_ℤ (pos n)) (leading_number rest)
+    else option_map pos (leading_number (if c == plus_sign then rest else c ∷ rest))
 
 -- Rules for parsing integers (HTML, "Signed integers"): a number of any size, or an error.
 abbrev pub integer : List ℕ → Option ℤ

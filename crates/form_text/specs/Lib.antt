@@ -1,3 +1,5 @@
+pub mod Bytes
+pub mod Front
 pub mod Integers
 pub mod LineEnds
 pub mod Utf16

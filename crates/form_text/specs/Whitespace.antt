@@ -2,6 +2,7 @@
 use Rattle.std.specs.Prelude.{ℕ, ◌-◌, Bool, true, false, List, [], ◌∷◌, ◌++◌, length, take, drop, filter, if◌then◌else◌}
 use Rattle.std.specs.Char.{is_ascii_whitespace}
 use Rattle.std.specs.List.{prefix_len, suffix_len, slice_split, join_with_byte}
+use Rattle.form_text.specs.Bytes.{space}
 
 -- the text from its first byte on that is no ASCII whitespace
 abbrev pub without_leading_whitespace : List ℕ → List ℕ
@@ -26,9 +27,9 @@ words text = filter is_not_empty (slice_split is_ascii_whitespace text)
 
 -- a word behind what is written already, and a space between the two where that is not empty
 abbrev pub written_word : List ℕ → List ℕ → List ℕ
-written_word out word = (if is_not_empty out then out ++ 32 ∷ [] else out) ++ word
+written_word out word = (if is_not_empty out then out ++ space ∷ [] else out) ++ word
 
 -- Strip and collapse ASCII whitespace: the words of the text with one space between each two
 -- (Infra, "strip and collapse ASCII whitespace").
 abbrev pub stripped_and_collapsed : List ℕ → List ℕ
-stripped_and_collapsed text = join_with_byte 32 (words text)
+stripped_and_collapsed text = join_with_byte space (words text)

@@ -5,6 +5,7 @@
 //! given when it begins.
 #![tactic(auto)]
 
+mod front;
 mod integers;
 mod line_ends;
 mod sequence;
@@ -14,6 +15,7 @@ mod text;
 mod utf16;
 mod whitespace;
 
+pub use front::behind;
 pub use integers::parse_nonneg;
 pub use line_ends::{normalise_crlf, normalise_lf, strip_newlines};
 pub use sequence::Sequence;

@@ -1,6 +1,6 @@
 use crate::{
-    Sequence, Text, eq_ascii_case, normalise_crlf, normalise_lf, parse_nonneg, strip_collapse,
-    strip_newlines, strip_whitespace, utf16_len,
+    Sequence, Text, behind, eq_ascii_case, normalise_crlf, normalise_lf, parse_nonneg,
+    strip_collapse, strip_newlines, strip_whitespace, utf16_len,
 };
 use std::test::Fail;
 
@@ -72,6 +72,16 @@ fn lengths_cases_and_numbers(rt: HostRuntime) -> Result<(), Fail> {
     assert!(rt; !eq_ascii_case("\u{212A}", "k"));
     assert!(rt; !eq_ascii_case("a", "ab"));
 
+    for (text, front, rest) in [
+        ("été", "é", Some("té")),
+        ("ab", "", Some("ab")),
+        ("ab", "ab", Some("")),
+        ("ab", "abc", None),
+        ("ab", "b", None),
+    ] {
+        assert_eq!(rt; behind(text, front), rest);
+    }
+
     let numbers = [
         ("", None),
         ("-", None),
@@ -99,7 +109,7 @@ fn lengths_cases_and_numbers(rt: HostRuntime) -> Result<(), Fail> {
 #[test]
 fn small_types_hold_what_they_are_given(rt: HostRuntime) -> Result<(), Fail> {
     let alloc = rt.alloc();
-    let text = Text::from_string(String::from_str(alloc, "é")?);
+    let text = Text::from_string(Text::from_str(alloc, "é")?.into_string());
     assert_eq!(rt; text.clone()?.as_str(), "é");
     assert_eq!(rt; text.into_string().as_str(), "é");
 

@@ -1,7 +1,7 @@
 ghost use Rattle.std.specs.Prelude.{◌≡◌, IfOk};
 ghost use Rattle.std.specs.String.{string_bytes};
 
-use std::alloc::AllocError;
+use std::alloc::{AllocError, Global};
 use std::marker::Model;
 
 /// A `String` that contracts see as the list of its UTF-8 bytes, so that a struct which holds one
@@ -21,6 +21,14 @@ impl Model for Text {
 }
 
 impl Text {
+    /// A copy of the text.
+    pub fn from_str(alloc: Global, text: &str) -> Result<Text, AllocError>
+        ensures { IfOk result (λ t. t ≡ text.now) }
+    {
+        let text = String::from_str(alloc, text)?;
+        Ok(Text { text })
+    }
+
     /// The text of a `String`, which is moved and not copied.
     pub fn from_string(text: String) -> Text
         ensures { result ≡ string_bytes text }

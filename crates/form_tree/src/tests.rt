@@ -9,7 +9,7 @@ use std::test::Fail;
 fn text(alloc: Global, text: &str) -> Result<Text, AllocError>
     ensures { IfOk result (λ t. t ≡ text.now) }
 {
-    Ok(Text::from_string(String::from_str(alloc, text)?))
+    Text::from_str(alloc, text)
 }
 
 fn attr(alloc: Global, name: &str, value: &str) -> Result<(Text, Text), AllocError>

@@ -4,7 +4,7 @@
 
 ghost use Rattle.form_types.specs.declared.kind.Kind.{Kind};
 ghost use Rattle.form_types.specs.TypeTable.{mode_of};
-ghost use Rattle.form_text.proofs.WhitespaceLaws.{without_newlines_again};
+ghost use Rattle.form_text.proofs.Laws.{without_newlines_again};
 
 use crate::input_state::InputState;
 use crate::limits::{Defaults, LimitedState, Limits};

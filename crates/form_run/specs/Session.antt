@@ -3,7 +3,7 @@ use Rattle.std.specs.Prelude.{ℕ, List, [], ◌∷◌, ◌++◌, length, codes,
 use Rattle.url.specs.Parts.{Parts}
 use Rattle.form_tree.specs.declared.node.Key.{Key}
 use Rattle.form_tree.specs.declared.node.State.{State}
-use Rattle.form_tree.specs.Tree.{Nodes, attr_of, state_of, with_state, empty_state, nodes_of_raws}
+use Rattle.form_tree.specs.Tree.{Tree, Nodes, attr_of, state_of, with_state, empty_state, tree_of_raws}
 use Rattle.form_submit.specs.declared.First.{First}
 use Rattle.form_submit.specs.declared.First.TheVariants.{Action, Scheme, Get}
 use Rattle.form_submit.specs.First.{first_request}
@@ -14,10 +14,10 @@ use Rattle.form_run.specs.Command.{command_in}
 use Rattle.form_run.specs.declared.command.Command.{Command}
 use Rattle.form_run.specs.declared.command.Command.TheVariants.{Enter, Set}
 
--- a session: the document's URL, and the elements of its page as the commands so far left them
+-- a session: the document's URL, and the tree of its page as the commands so far left it
 pub record Session : Type 0 where
   pub base : Parts
-  pub tree : Nodes
+  pub tree : Tree
 
 -- the keys of the form and of its input
 abbrev pub form_key : Key
@@ -28,7 +28,7 @@ input_key = record { 0 = 2 }
 
 -- the session that a page begins: its elements, with empty states
 abbrev pub opened : Parts → PageData → Session
-opened base page = record { base = base; tree = nodes_of_raws (raws_of page) }
+opened base page = record { base = base; tree = tree_of_raws (raws_of page) }
 
 -- ---- the input's value and flag
 
@@ -72,9 +72,11 @@ view_then value missing more =
 
 -- ---- the command `set`
 
--- the elements with this text as the input's value; its dirty value flag is set
-abbrev pub with_value : Nodes → List ℕ → Nodes
-with_value nodes text = with_state nodes input_key (record empty_state { value = text; dirty = true })
+-- the tree with this text as the input's value; its dirty value flag is set
+abbrev pub with_value : Tree → List ℕ → Tree
+with_value tree text = record tree {
+  nodes = with_state tree.nodes input_key (record empty_state { value = text; dirty = true });
+}
 
 -- the input's view where it changed, which it does exactly where its value does; and then that the command was done
 abbrev pub set_reply : Nodes → List ℕ → List ℕ
@@ -87,8 +89,8 @@ set_reply nodes text =
 -- what the form asks for
 abbrev pub request_of : Session → First
 request_of session =
-    first_request session.base (or_empty (attr_of session.tree form_key (codes "action")))
-    (or_empty (attr_of session.tree input_key (codes "name"))) (value_of session.tree)
+    first_request session.base (or_empty (attr_of session.tree.nodes form_key (codes "action")))
+    (or_empty (attr_of session.tree.nodes input_key (codes "name"))) (value_of session.tree.nodes)
 
 abbrev pub request_reply : First → List ℕ
 request_reply Action = line_then (codes "none action") ok_line
@@ -98,7 +100,7 @@ request_reply (Get url) = codes "request GET " ++ line_then url ok_line
 -- the submission stops where the input suffers from being missing; otherwise it is the request, or why there is none
 abbrev pub enter_reply : Session → List ℕ
 enter_reply session =
-    if is_value_missing session.tree
+    if is_value_missing session.tree.nodes
     then line_then (codes "stopped") (line_then (codes "invalid @2 valueMissing") ok_line)
     else request_reply (request_of session)
 
@@ -108,7 +110,7 @@ enter_reply session =
 abbrev pub reply_to : Session → Option Command → List ℕ × Session
 reply_to session None = (refused_line, session)
 reply_to session (Some Enter) = (enter_reply session, session)
-reply_to session (Some (Set text)) = (set_reply session.tree text, record session { tree = with_value session.tree text })
+reply_to session (Some (Set text)) = (set_reply session.tree.nodes text, record session { tree = with_value session.tree text })
 
 -- the reply to a line, and the session after it
 unfoldable pub reply : Session → List ℕ → List ℕ × Session

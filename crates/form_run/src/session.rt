@@ -37,7 +37,7 @@ impl Model for Session {
 
     ghost view = { λ s. record { base = s.base; tree = s.tree } };
 
-    ghost invariant = { λ s. is_some (place_of s.tree input_key) ≡ true };
+    ghost invariant = { λ s. is_some (place_of s.tree.nodes input_key) ≡ true };
 }
 
 impl Session {
@@ -52,7 +52,7 @@ impl Session {
 
     // The input's value.
     fn value(&self) -> &str
-        ensures { result.now ≡ value_of self.now.tree }
+        ensures { result.now ≡ value_of self.now.tree.nodes }
     {
         match self.tree.state(INPUT) {
             Some(state) => state.value.as_str(),
@@ -62,7 +62,7 @@ impl Session {
 
     // An attribute's value, which is empty where there is none.
     fn attr(&self, key: Key, name: &str) -> &str
-        ensures { result.now ≡ or_empty (attr_of self.now.tree key name.now) }
+        ensures { result.now ≡ or_empty (attr_of self.now.tree.nodes key name.now) }
     {
         match self.tree.attr(key, name) {
             Some(value) => value,
@@ -72,7 +72,7 @@ impl Session {
 
     // Whether with that value the input suffers from being missing.
     fn is_missing_at(&self, value: &str) -> bool
-        ensures { result ≡ is_missing_at self.now.tree value.now }
+        ensures { result ≡ is_missing_at self.now.tree.nodes value.now }
     {
         self.tree.attr(INPUT, "required").is_some() && value.is_empty()
     }
@@ -98,7 +98,7 @@ impl Session {
 
     // The reply to `set`: the input's view where it changes.
     fn set_reply(&self, alloc: Global, text: &str) -> Result<String, AllocError>
-        ensures { IfOk result (λ reply. string_bytes reply ≡ set_reply self.now.tree text.now) }
+        ensures { IfOk result (λ reply. string_bytes reply ≡ set_reply self.now.tree.nodes text.now) }
     {
         if self.value() == text {
             return String::from_str(alloc, "ok\n");

@@ -1,5 +1,5 @@
 -- The nodes of a page that was just read are a tree, whose keys are 1, 2 and so on.
-use Rattle.std.proofs.Common.{◌≡◌, ◌≢◌, ℕ, zero, suc, ◌+◌, ◌-◌, ◌<◌, ◌&&◌, List, [], ◌∷◌, ◌++◌, length, map, drop, get_or, Option, Some, None, IsSome, IfSome, cond, refl, sym, ap, ◌∙◌, subst, arith, ltb, leb, eqb}
+use Rattle.std.proofs.Common.{◌≡◌, ◌≢◌, ℕ, zero, suc, ◌+◌, ◌-◌, ◌<◌, ◌≤◌, ◌&&◌, List, [], ◌∷◌, ◌++◌, length, map, drop, get_or, Option, Some, None, IsSome, IfSome, cond, refl, sym, ap, ◌∙◌, subst, arith, ltb, leb, eqb}
 use Rattle.std.specs.List.{All, AllPairs, enumerate_from, slice_get}
 use Rattle.std.specs.Option.{option_and_then, option_map}
 use Rattle.std.proofs.lemmas.Bool.Decides.{nat_tests}
@@ -12,7 +12,7 @@ use Rattle.form_tree.specs.declared.node.Key.{Key}
 use Rattle.form_tree.specs.declared.node.Node.{Node}
 use Rattle.form_tree.specs.declared.node.Raw.{Raw}
 use Rattle.form_tree.specs.Index.{IsIndexOf, first_place, indexed}
-use Rattle.form_tree.specs.Tree.{Nodes, Shape, IsInTreeOrder, IsTree, IsTreeOfRaws, NamesDiffer, first_key, node_of_raw, nodes_of_raws, place_in, shape_of}
+use Rattle.form_tree.specs.Tree.{Nodes, Shape, AreGiven, IsInTreeOrder, IsTree, IsTreeOfRaws, NamesDiffer, first_key, node_of_raw, nodes_of_raws, place_in, shape_of}
 
 -- the nodes of raws whose first stands at place n
 abbrev pub numbered : ℕ → List Raw → Nodes
@@ -95,9 +95,22 @@ keys_differ_first raws i j d lower below = λ same.
     let numbers : 0 + i + 1 ≡ 0 + j + 1 = ap (λ (k : Key). k.0) (sym one ∙ same ∙ two) in
     omega arith
 
+-- the keys are from 1
+from_one_numbered : (n : ℕ) (raws : List Raw) → All (λ (entry : Key × Option Key). 1 ≤ entry.0.0) (shape_of (numbered n raws))
+from_one_numbered n [] = All-nil (λ (entry : Key × Option Key). 1 ≤ entry.0.0)
+from_one_numbered n (raw ∷ raws) = All-cons (λ (entry : Key × Option Key). 1 ≤ entry.0.0) _ _ (omega arith) (from_one_numbered (n + 1) raws)
+
+-- and none is above their number
+given_numbered : (n used : ℕ) (raws : List Raw) → n + length raws ≤ used → AreGiven used (shape_of (numbered n raws))
+given_numbered n used [] below = All-nil (λ (entry : Key × Option Key). entry.0.0 ≤ used)
+given_numbered n used (raw ∷ raws) below = All-cons (λ (entry : Key × Option Key). entry.0.0 ≤ used) _ _ (omega arith) (given_numbered (n + 1) used raws (omega arith))
+
+pub given_first : (raws : List Raw) → AreGiven (length raws) (shape_of (nodes_of_raws raws))
+given_first raws = given_numbered 0 (length raws) raws (omega arith)
+
 -- the nodes of raws in tree order are a tree
-pub tree_of_raws : (raws : List Raw) → IsTreeOfRaws raws → IsTree (nodes_of_raws raws)
-tree_of_raws raws given =
+pub raws_are_tree : (raws : List Raw) → IsTreeOfRaws raws → IsTree (nodes_of_raws raws)
+raws_are_tree raws given =
     let there : (i p : ℕ) → slice_get (map (λ (raw : Raw). raw.parent) raws) i ≡ Some (Some p) → place_in (shape_of (nodes_of_raws raws)) (first_key p) ≡ Some p =
     λ i p is.
     let before = given.in_order.before i p is in
@@ -106,6 +119,7 @@ tree_of_raws raws given =
     place_of_first raws p (omega arith) in record {
       shape = record {
         keys_differ = keys_differ_first raws;
+        keys_from_one = from_one_numbered 0 raws;
         parents_there = parents_are_there (shape_of (nodes_of_raws raws)) 0 raws there;
         in_order = subst IsInTreeOrder (sym (parents_numbered (shape_of (nodes_of_raws raws)) 0 raws there)) given.in_order;
       };

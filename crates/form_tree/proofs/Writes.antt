@@ -8,7 +8,7 @@ use Rattle.std.proofs.Math.Seq.{map-set_same}
 use Rattle.form_tree.specs.declared.node.Key.{Key}
 use Rattle.form_tree.specs.declared.node.Node.{Node}
 use Rattle.form_tree.specs.Index.{IsIndexOf}
-use Rattle.form_tree.specs.Tree.{Nodes, IsTree, NamesDiffer, shape_of, place_of, is_key, with_node}
+use Rattle.form_tree.specs.Tree.{Nodes, AreGiven, IsTree, NamesDiffer, shape_of, place_of, is_key, with_node}
 use Rattle.form_tree.proofs.Places.{placed_below, keys_apart}
 
 -- where no element passes, a change of those that pass changes nothing
@@ -43,6 +43,9 @@ module _ (ns : Nodes) (tree : IsTree ns) (k : Key) (i : ℕ) (placed : place_of 
 
   pub keeps_index : (index : List (Option ℕ)) → IsIndexOf index (shape_of ns) → (new : Node) → new.key ≡ old.key → new.parent ≡ old.parent → IsIndexOf index (shape_of (set ns i new))
   keeps_index index agrees new same_key same_parent = subst (IsIndexOf index) (sym (same_shape new same_key same_parent)) agrees
+
+  pub keeps_given : (used : ℕ) → AreGiven used (shape_of ns) → (new : Node) → new.key ≡ old.key → new.parent ≡ old.parent → AreGiven used (shape_of (set ns i new))
+  keeps_given used given new same_key same_parent = subst (AreGiven used) (sym (same_shape new same_key same_parent)) given
 
   pub names_there : NamesDiffer old.attrs
   names_there = subst (λ (n : Node). NamesDiffer n.attrs) (sym read) (tree.names i old below)

@@ -1,5 +1,5 @@
 -- The elements of a page as a list of nodes in tree order (DOM, "Trees").
-use Rattle.std.specs.Prelude.{◌≡◌, ◌≢◌, ℕ, ◌+◌, ◌<◌, ◌≤◌, ◌==◌, Bool, false, List, [], map, Option, Some, IsSome, IfSome, if◌then◌else◌}
+use Rattle.std.specs.Prelude.{◌≡◌, ◌≢◌, ℕ, ◌+◌, ◌<◌, ◌≤◌, ◌==◌, Bool, false, List, [], length, map, Option, Some, IsSome, IfSome, if◌then◌else◌}
 use Rattle.std.specs.List.{find, position, slice_get, enumerate_from, All, AllPairs}
 use Rattle.std.specs.Option.{option_map, option_and_then}
 use Rattle.std.specs.Str.{bytes_eq}
@@ -12,6 +12,12 @@ use Rattle.form_tree.specs.declared.node.Tag.{Tag}
 -- nodes in tree order
 abbrev pub Nodes : Type 0
 Nodes = List Node
+
+-- A tree: its nodes, and the greatest key number that was ever given. No key is used again, also
+-- where its node is gone, so the next one is above that number.
+pub record Tree : Type 0 where
+  pub nodes : Nodes
+  pub used : ℕ
 
 -- ---- what may be asked of a list of nodes
 
@@ -100,9 +106,10 @@ place_in s k = position (λ entry. k.0 == entry.0.0) s
 abbrev pub parent_places : Shape → List (Option ℕ)
 parent_places s = map (λ entry. option_and_then (place_in s) entry.1) s
 
--- keys all differ, each parent is there, and the list is in tree order
+-- keys all differ and are from 1, each parent is there, and the list is in tree order
 pub record IsTreeShape (s : Shape) : Type 0 where
   pub keys_differ : AllPairs (λ a b. a ≢ b) (map (λ entry. entry.0) s)
+  pub keys_from_one : All (λ entry. 1 ≤ entry.0.0) s
   pub parents_there : All (λ entry. IfSome entry.1 (λ k. IsSome (place_in s k))) s
   pub in_order : IsInTreeOrder (parent_places s)
 
@@ -110,10 +117,14 @@ pub record IsTreeShape (s : Shape) : Type 0 where
 abbrev pub NamesDiffer : List (List ℕ × List ℕ) → Type 0
 NamesDiffer attrs = AllPairs (λ a b. a ≢ b) (map (λ attr. attr.0) attrs)
 
--- A tree: its shape is that of a tree, and the attributes of each node have different names.
+-- The nodes of a tree: their shape is that of a tree, and the attributes of each have different names.
 pub record IsTree (ns : Nodes) : Type 0 where
   pub shape : IsTreeShape (shape_of ns)
   pub names : All (λ n. NamesDiffer n.attrs) ns
+
+-- every key that is there was given: its number is not above the greatest
+abbrev pub AreGiven : ℕ → Shape → Type 0
+AreGiven used s = All (λ entry. entry.0.0 ≤ used) s
 
 -- ---- a tree that a page is read into
 
@@ -150,6 +161,10 @@ node_of_raw place raw = record {
 -- the nodes of the raws, each with the key of its place and an empty state
 abbrev pub nodes_of_raws : List Raw → Nodes
 nodes_of_raws raws = map (λ entry. node_of_raw entry.0 entry.1) (enumerate_from 0 raws)
+
+-- the tree of the raws: one key was given to each
+abbrev pub tree_of_raws : List Raw → Tree
+tree_of_raws raws = record { nodes = nodes_of_raws raws; used = length raws }
 
 -- what a list of raws must be
 pub record IsTreeOfRaws (raws : List Raw) : Type 0 where

@@ -1,6 +1,6 @@
 ghost use Rattle.std.specs.Prelude.{◌≡◌, ◌+◌, ◌<◌, ◌^◌, length, map, IfOk, IfSome, IsSome, Some, vec_len};
 ghost use Rattle.std.specs.Option.{option_copied, option_map};
-ghost use Rattle.form_tree.specs.Tree.{IsTree, IsTreeOfRaws, first_key, at_key, attr_in, attr_of, attrs_of, key_at, node_of_raw, nodes_of_raws, parent_of, place_of, state_of, tag_of, text_of, with_state};
+ghost use Rattle.form_tree.specs.Tree.{IsTree, IsTreeOfRaws, first_key, at_key, attr_in, attr_of, attrs_of, key_at, node_of_raw, nodes_of_raws, tree_of_raws, parent_of, place_of, state_of, tag_of, text_of, with_state};
 ghost use Rattle.form_tree.specs.Index.{indexed, first_place};
 ghost use Rattle.form_tree.specs.declared.node.Key.{Key};
 
@@ -15,20 +15,21 @@ pub struct Tree {
     nodes: Vec<Node>,
     // The place of each key, by its number.
     places: Vec<Option<usize>>,
+    // The greatest key number that was ever given.
+    used: u32,
 }
 
 impl Model for Tree {
-    ghost use Rattle.std.specs.Prelude.{List};
-    ghost use Rattle.form_tree.specs.declared.node.Node.{Node};
-    ghost use Rattle.form_tree.specs.Tree.{IsTree, shape_of};
+    ghost use Rattle.form_tree.specs.Tree.{AreGiven, IsTree, Tree, shape_of};
     ghost use Rattle.form_tree.specs.Index.{IsIndexOf};
 
-    ghost Value = { List Node };
+    ghost Value = { Tree };
 
-    ghost view = { λ t. t.nodes.items };
+    ghost view = { λ t. record { nodes = t.nodes.items; used = t.used } };
 
     ghost invariant = { λ t. IsTree t.nodes.items
-        × IsIndexOf t.places.items (shape_of t.nodes.items) };
+        × IsIndexOf t.places.items (shape_of t.nodes.items)
+        × AreGiven t.used (shape_of t.nodes.items) };
 }
 
 impl Tree {
@@ -37,24 +38,29 @@ impl Tree {
     pub fn from_raw(alloc: Global, raws: Vec<Raw>) -> Result<Tree, AllocError>
         requires few { vec_len raws < 2 ^ 32 }
         requires tree { IsTreeOfRaws raws.items }
-        ensures { IfOk result (λ tree. tree ≡ nodes_of_raws raws.items) }
+        ensures { IfOk result (λ tree. tree ≡ tree_of_raws raws.items) }
     {
-        let places = first_index(alloc, raws.len())?;
+        let count = raws.len();
+        let places = first_index(alloc, count)?;
         let nodes = nodes_of(alloc, raws)?;
-        Ok(Tree { nodes, places })
+        Ok(Tree {
+            nodes,
+            places,
+            used: count as u32,
+        })
     }
 
     /// How many elements the tree has.
     pub fn len(&self) -> usize
-        ensures value { result ≡ length self.now }
-        ensures tree { IsTree self.now }
+        ensures value { result ≡ length self.now.nodes }
+        ensures tree { IsTree self.now.nodes }
     {
         self.nodes.len()
     }
 
     /// The key of the element at a place, counted from 0 in tree order; None where there is none.
     pub fn key_at(&self, place: usize) -> Option<Key>
-        ensures { result ≡ key_at self.now place }
+        ensures { result ≡ key_at self.now.nodes place }
     {
         match self.nodes.get(place) {
             Some(node) => Some(node.key),
@@ -64,8 +70,8 @@ impl Tree {
 
     /// The place of an element in tree order, from 0; None where the tree has no such key.
     pub fn place(&self, key: Key) -> Option<usize>
-        ensures value { result ≡ place_of self.now key }
-        ensures tree { IsTree self.now }
+        ensures value { result ≡ place_of self.now.nodes key }
+        ensures tree { IsTree self.now.nodes }
     {
         match self.places.get(key.0 as usize) {
             Some(place) => *place,
@@ -75,7 +81,7 @@ impl Tree {
 
     /// What the element is; None where the tree has no such key.
     pub fn tag(&self, key: Key) -> Option<Tag>
-        ensures { result ≡ tag_of self.now key }
+        ensures { result ≡ tag_of self.now.nodes key }
     {
         match self.node(key) {
             Some(node) => Some(node.tag),
@@ -86,7 +92,7 @@ impl Tree {
     /// The key of the element's parent; None for an element at the top, and where the tree has no
     /// such key.
     pub fn parent(&self, key: Key) -> Option<Key>
-        ensures { result ≡ parent_of self.now key }
+        ensures { result ≡ parent_of self.now.nodes key }
     {
         self.node(key)?.parent
     }
@@ -94,7 +100,7 @@ impl Tree {
     /// The value of an attribute of the element; None where it has no attribute of that name, and
     /// where the tree has no such key.
     pub fn attr(&self, key: Key, name: &str) -> Option<&str>
-        ensures { option_copied result ≡ attr_of self.now key name.now }
+        ensures { option_copied result ≡ attr_of self.now.nodes key name.now }
     {
         match self.attrs(key) {
             Some(attrs) => value_in(attrs, name),
@@ -104,7 +110,7 @@ impl Tree {
 
     /// How many attributes the element has; None where the tree has no such key.
     pub fn attr_count(&self, key: Key) -> Option<usize>
-        ensures { result ≡ option_map length (attrs_of self.now key) }
+        ensures { result ≡ option_map length (attrs_of self.now.nodes key) }
     {
         match self.attrs(key) {
             Some(attrs) => Some(attrs.len()),
@@ -115,7 +121,7 @@ impl Tree {
     /// The attributes of the element, each with its name and its value, in their order; None where
     /// the tree has no such key.
     pub fn attrs(&self, key: Key) -> Option<&[(Text, Text)]>
-        ensures { option_copied result ≡ attrs_of self.now key }
+        ensures { option_copied result ≡ attrs_of self.now.nodes key }
     {
         match self.node(key) {
             Some(node) => Some(node.attrs.as_slice()),
@@ -125,7 +131,7 @@ impl Tree {
 
     /// The text that stands directly in the element; None where the tree has no such key.
     pub fn text(&self, key: Key) -> Option<&str>
-        ensures { option_copied result ≡ text_of self.now key }
+        ensures { option_copied result ≡ text_of self.now.nodes key }
     {
         match self.node(key) {
             Some(node) => Some(node.text.as_str()),
@@ -135,7 +141,7 @@ impl Tree {
 
     /// What the element keeps beside its attributes; None where the tree has no such key.
     pub fn state(&self, key: Key) -> Option<&State>
-        ensures { option_copied result ≡ state_of self.now key }
+        ensures { option_copied result ≡ state_of self.now.nodes key }
     {
         match self.node(key) {
             Some(node) => Some(&node.state),
@@ -145,8 +151,8 @@ impl Tree {
 
     /// Puts a state in place of that of an element that is there; the old one is dropped.
     pub fn set_state(&mut self, key: Key, state: State)
-        requires { IsSome (place_of self.old key) }
-        ensures { self.new ≡ with_state self.old key state }
+        requires { IsSome (place_of self.old.nodes key) }
+        ensures { self.new ≡ record self.old { nodes = with_state self.old.nodes key state } }
     {
         let place = self.place_in(key);
         let node = &mut self.nodes[place];
@@ -155,7 +161,7 @@ impl Tree {
 
     // The one reader that the others stand on.
     fn node(&self, key: Key) -> Option<&Node>
-        ensures { option_copied result ≡ at_key self.now key }
+        ensures { option_copied result ≡ at_key self.now.nodes key }
     {
         match self.place(key) {
             Some(place) => self.nodes.get(place),
@@ -165,8 +171,8 @@ impl Tree {
 
     // The place of a key that is there.
     fn place_in(&self, key: Key) -> usize
-        requires { IsSome (place_of self.now key) }
-        ensures { place_of self.now key ≡ Some result }
+        requires { IsSome (place_of self.now.nodes key) }
+        ensures { place_of self.now.nodes key ≡ Some result }
     {
         self.place(key).unwrap()
     }

@@ -232,14 +232,11 @@ pub date_text_back : (n : ℤ) (text : List ℕ) → date_text n ≡ Some text �
 date_text_back n text h = date_again text n (date_text_valid n text h)
 
 -- it is there wherever some valid text has the number
-pub date_text_some : (text : List ℕ) (n : ℤ) → IsValidDate text n → (short : List ℕ) × (date_text n ≡ Some short)
-date_text_some text n v = (text, date_text_only text n v)
-
 pub date_text_none : (n : ℤ) → date_text n ≡ None → (text : List ℕ) → IsValidDate text n → ⊥
 date_text_none n h text v = none-some text (sym h ∙ date_text_only text n v)
 
 pub date_number_text : (text : List ℕ) (n : ℤ) → date_number text ≡ Some n → (short : List ℕ) × (date_text n ≡ Some short)
-date_number_text text n h = date_text_some text n (date_found text n h)
+date_number_text text n h = (text, date_text_only text n (date_found text n h))
 
 -- a day number that no date from the year 1 on has has no text
 pub day_text_none : (day : ℤ) → ((date : Date) → pos 1 ≤ℤ date.year → epoch_day date ≡ day → ⊥) → None ≡ day_text day

@@ -1,12 +1,13 @@
-pub mod DigitLemmas
-pub mod ReadingLemmas
+mod DigitLemmas
+mod ReadingLemmas
 pub mod PrintLemmas
-pub mod MonthLemmas
-pub mod DateLemmas
-pub mod DateTexts
-pub mod WeekLemmas
-pub mod WeekTexts
-pub mod TimeLemmas
-pub mod TimeTexts
-pub mod LocalLemmas
-pub mod LocalTexts
+mod MonthLemmas
+mod DateLemmas
+mod DateTexts
+mod WeekLemmas
+mod WeekTexts
+mod TimeLemmas
+mod TimeTexts
+mod LocalLemmas
+mod LocalTexts
+pub mod Laws

@@ -1,15 +1,15 @@
 -- A month string is read from the left exactly as it is spelled.
-use Rattle.std.proofs.Common.{◌≡◌, ℕ, ◌+◌, ◌-◌, ◌*◌, ◌/◌, ◌%◌, ◌^◌, ◌<◌, ◌≤◌, ◌&&◌, List, [], length, Some, None, refl, ap, sym, subst, ◌∙◌, arith, codes, eqb, leb, ltb, append-nil, ℤ, pos, negsuc, neg_ℤ, ◌+ℤ◌, ◌<ℤ◌, unsigned_abs}
+use Rattle.std.proofs.Common.{◌≡◌, ℕ, ◌+◌, ◌-◌, ◌*◌, ◌/◌, ◌%◌, ◌^◌, ◌<◌, ◌≤◌, ◌&&◌, List, Some, None, refl, ap, sym, subst, ◌∙◌, arith, codes, leb, ltb, ℤ, pos, negsuc, neg_ℤ, ◌+ℤ◌, ◌<ℤ◌, unsigned_abs}
 use Rattle.std.proofs.lemmas.Bool.{and_parts, leb-true, le-leb, ltb-true, lt-ltb}
 use Rattle.std.proofs.lemmas.Option.{option_and_then_some, cond_some, none-some}
 use Rattle.std.specs.Int.{IsInRange}
-use Rattle.form_calendar.specs.Reading.{pair_at}
+use Rattle.form_calendar.specs.Reading.{whole_pair}
 use Rattle.form_calendar.specs.Month.{IsMonthText, IsValidMonth, months_from_1970, month_number_of, month_number, year_month_text, months_text, month_text}
 use Rattle.form_calendar.specs.Shortest.{IsShortest}
 use Rattle.jiff_core.proofs.SignedLemmas.{signed_arith, one_part}
 use Rattle.form_calendar.proofs.DigitLemmas.{writes_below, pair_writes, pair_only}
 use Rattle.form_calendar.proofs.PrintLemmas.{only_shortest}
-use Rattle.form_calendar.proofs.ReadingLemmas.{some_if, none_if, pair_at_reads, pair_at_again, whole_front}
+use Rattle.form_calendar.proofs.ReadingLemmas.{none_if, whole_pair_found, whole_pair_again}
 
 pub month_number_of_some : (y m : ℕ) (n : ℤ) → month_number_of y m ≡ Some n → (1 ≤ y) × IsInRange 1 12 m × (n ≡ months_from_1970 y m)
 unfolding month_number_of
@@ -27,14 +27,12 @@ month_number_of_is y m h r = rw (le-leb 1 y h, le-leb 1 m r.0, le-leb m 12 r.1) 
 pub month_found : (text : List ℕ) (n : ℤ) → month_number text ≡ Some n → IsValidMonth text n
 unfolding month_number
 month_found text n h =
-    option_and_then_some _ (pair_at 4 (codes "-") text) n h (λ r e k.
-    let t = some_if (eqb (length r.1) 0) (month_number_of r.0.0 r.0.1) n k in
-    let front = pair_at_reads 4 (codes "-") text r.1 r.0.0 r.0.1 e in
-    let parts = month_number_of_some r.0.0 r.0.1 n t.1 in
+    option_and_then_some _ (whole_pair (codes "-") text) n h (λ p e k.
+    let parts = month_number_of_some p.0 p.1 n k in
     record {
-      year = r.0.0;
-      month = r.0.1;
-      spelled = subst (λ x. IsMonthText x r.0.0 r.0.1) (whole_front text front.0 r.1 front.2 t.0) front.1;
+      year = p.0;
+      month = p.1;
+      spelled = whole_pair_found (codes "-") text p.0 p.1 e;
       from_year_one = parts.0;
       month_in = parts.1;
       number = parts.2;
@@ -44,8 +42,8 @@ month_found text n h =
 pub month_again : (text : List ℕ) (n : ℤ) → IsValidMonth text n → month_number text ≡ Some n
 unfolding month_number
 month_again text n v =
-    let e : pair_at 4 (codes "-") text ≡ Some ((v.year, v.month), []) = ap (pair_at 4 (codes "-")) (sym (append-nil text)) ∙ pair_at_again 4 text [] v.year v.month (codes "-") (λ r. refl) v.spelled in
-    rw e (month_number_of_is v.year v.month v.from_year_one v.month_in ∙ ap Some (sym v.number))
+    rw (whole_pair_again (codes "-") text v.year v.month (λ r. refl) v.spelled)
+    (month_number_of_is v.year v.month v.from_year_one v.month_in ∙ ap Some (sym v.number))
 
 months_valid : (z n : ℤ) (text : List ℕ) → z ≡ n +ℤ pos 23640 → months_text z ≡ Some text → IsValidMonth text n
 unfolding months_text
@@ -105,14 +103,11 @@ pub month_text_back : (n : ℤ) (text : List ℕ) → month_text n ≡ Some text
 month_text_back n text h = month_again text n (month_text_valid n text h)
 
 -- it is there wherever some valid text has the number
-pub month_text_some : (text : List ℕ) (n : ℤ) → IsValidMonth text n → (short : List ℕ) × (month_text n ≡ Some short)
-month_text_some text n v = (text, month_text_only text n v)
-
 pub month_text_none : (n : ℤ) → month_text n ≡ None → (text : List ℕ) → IsValidMonth text n → ⊥
 month_text_none n h text v = none-some text (sym h ∙ month_text_only text n v)
 
 pub month_number_text : (text : List ℕ) (n : ℤ) → month_number text ≡ Some n → (short : List ℕ) × (month_text n ≡ Some short)
-month_number_text text n h = month_text_some text n (month_found text n h)
+month_number_text text n h = (text, month_text_only text n (month_found text n h))
 
 -- the number of a valid text is small
 pub month_bound : (text : List ℕ) (n : ℤ) → IsValidMonth text n → unsigned_abs n ≤ 10 ^ 15

@@ -37,6 +37,8 @@ unfolding pair_text
 pair_and_more count separator rest a b =
     append_assoc (padded count a) (separator ++ padded 2 b) rest ∙ ap (λ x. padded count a ++ x) (append_assoc separator (padded 2 b) rest)
 
+pub ruleset date_holes = (hole_padded, pair_and_more)
+
 -- the printed text, by another name
 pub printed_as : {A E : Type 0} (r : Result (Option (String A)) E) (o p : Option (List ℕ)) → IfOk r (λ t. option_map string_bytes t ≡ o) → o ≡ p → IfOk r (λ t. option_map string_bytes t ≡ p)
 printed_as r o p h e = subst (λ x. IfOk r (λ t. option_map string_bytes t ≡ x)) e h

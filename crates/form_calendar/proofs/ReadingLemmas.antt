@@ -9,7 +9,7 @@ use Rattle.std.specs.Char.{digit_value, is_ascii_digit}
 use Rattle.std.specs.Str.Parse.{AllDigits, digits_value_after}
 use Rattle.std.proofs.lemmas.Bool.Decides.{nat_tests}
 use Rattle.form_calendar.specs.Digits.{Writes, IsPair}
-use Rattle.form_calendar.specs.Reading.{number_after, number_at, behind, pair_at}
+use Rattle.form_calendar.specs.Reading.{number_after, number_at, behind, pair_at, whole_pair}
 
 digit_true : (c : ℕ) → is_ascii_digit c ≡ true → (digit_value c < 10) × (digit_value c ≡ c - 48)
 digit_true c h = (grind (arith, nat_tests), grind (arith, nat_tests))
@@ -105,6 +105,25 @@ pair_at_reads count separator text rest a b h =
 pub whole_front : (text front rest : List ℕ) → text ≡ front ++ rest → eqb (length rest) 0 ≡ true → front ≡ text
 whole_front text front rest e h =
     sym (e ∙ ap (λ x. front ++ x) (nil_from_length rest (eqb-true (length rest) 0 h)) ∙ append-nil front)
+
+-- a whole text that is read as two numbers is spelled so
+pub whole_pair_found : (separator text : List ℕ) (a b : ℕ) → whole_pair separator text ≡ Some (a, b) → IsPair 4 separator text a b
+unfolding whole_pair
+whole_pair_found separator text a b h =
+    option_and_then_some _ (pair_at 4 separator text) (a, b) h (λ r e k.
+    let t = cond_some (eqb (length r.1) 0) r.0 (a, b) k in
+    let first = ap (λ (p : ℕ × ℕ). p.0) t.1 in
+    let second = ap (λ (p : ℕ × ℕ). p.1) t.1 in
+    let front = pair_at_reads 4 separator text r.1 r.0.0 r.0.1 e in
+    subst (λ x. IsPair 4 separator x a b) (whole_front text front.0 r.1 front.2 t.0)
+    (subst (λ y. IsPair 4 separator front.0 a y) second (subst (λ x. IsPair 4 separator front.0 x r.0.1) first front.1)))
+
+-- and a text that is spelled so is read
+pub whole_pair_again : (separator text : List ℕ) (a b : ℕ) → ((r : List ℕ) → behind separator (separator ++ r) ≡ Some r) → IsPair 4 separator text a b → whole_pair separator text ≡ Some (a, b)
+unfolding whole_pair
+whole_pair_again separator text a b again t =
+    let e : pair_at 4 separator text ≡ Some ((a, b), []) = ap (pair_at 4 separator) (sym (append-nil text)) ∙ pair_at_again 4 text [] a b separator again t in
+    rw e refl
 
 -- what holds of each value that there is holds of the value
 pub if_some : {A : Type 0} (o : Option A) (P : A → Type 0) → ((x : A) → o ≡ Some x → P x) → IfSome o P

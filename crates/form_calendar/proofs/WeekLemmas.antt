@@ -1,5 +1,5 @@
 -- The weeks of a year, and a week string that is read from the left exactly as it is spelled.
-use Rattle.std.proofs.Common.{◌≡◌, ℕ, ◌+◌, ◌-◌, ◌*◌, ◌%◌, ◌^◌, ◌<◌, ◌≤◌, Bool, true, false, ◌&&◌, ◌||◌, cond, List, [], length, Some, refl, ap, sym, subst, ◌∙◌, arith, codes, rules, eqb, leb, append-nil, ℤ, pos, neg_ℤ, ◌+ℤ◌, ◌*ℤ◌, ◌<ℤ◌, ◌≤ℤ◌, unsigned_abs}
+use Rattle.std.proofs.Common.{◌≡◌, ℕ, ◌+◌, ◌-◌, ◌*◌, ◌%◌, ◌^◌, ◌<◌, ◌≤◌, Bool, true, false, ◌&&◌, ◌||◌, cond, List, Some, refl, ap, sym, ◌∙◌, arith, codes, rules, eqb, leb, ℤ, pos, neg_ℤ, ◌+ℤ◌, ◌*ℤ◌, ◌<ℤ◌, ◌≤ℤ◌, unsigned_abs}
 use Rattle.std.proofs.lemmas.Bool.{and_parts, leb-true, le-leb}
 use Rattle.std.proofs.lemmas.Bool.Decides.{nat_tests}
 use Rattle.std.proofs.lemmas.Int.{by_lt_z}
@@ -13,10 +13,10 @@ use Rattle.jiff_core.specs.declared.civil.weekday.Weekday.TheVariants.{Monday}
 use Rattle.jiff_core.proofs.SignedLemmas.{signed_arith, one_part}
 use Rattle.jiff_core.proofs.CalendarLemmas.{days_from_civil-day_count, day_count-later_year, day_count-next_year, weekday_number-parts, days_in_year_bounds}
 use Rattle.jiff_core.proofs.IsoWeekLemmas.{day_count-fourth, iso_year_start-day_count, weeks_in_year-next, iso_year_start_near, iso_year_start-min, iso_year_start-end}
-use Rattle.form_calendar.specs.Reading.{pair_at}
-use Rattle.form_calendar.specs.Week.{IsWeekText, IsValidWeek, weeks_of, monday_of, week_number_of, week_number}
+use Rattle.form_calendar.specs.Reading.{whole_pair}
+use Rattle.form_calendar.specs.Week.{IsValidWeek, weeks_of, monday_of, week_number_of, week_number}
 use Rattle.form_calendar.proofs.DigitLemmas.{writes_below}
-use Rattle.form_calendar.proofs.ReadingLemmas.{some_if, pair_at_reads, pair_at_again, whole_front}
+use Rattle.form_calendar.proofs.ReadingLemmas.{whole_pair_found, whole_pair_again}
 
 -- a year of so many days that begins so many days after a Monday has this many weeks
 weeks_from_first : (a b c d x y n w first : ℕ) (leap : Bool) → 366 ≤ x → n ≡ cond leap 366 365 → y ≡ x + n → a + 4_371_953 + (x + 3 - 366) % 7 ≡ b + (x + 3) → c + 4_371_953 + (y + 3 - 366) % 7 ≡ d + (y + 3) → c + b ≡ d + a + 7 * w → first ≡ (x - 366) % 7 → w ≡ cond (eqb first 3 || (eqb first 2 && leap)) 53 52
@@ -92,14 +92,12 @@ week_number_date y w n below h =
 pub week_found : (text : List ℕ) (n : ℤ) → week_number text ≡ Some n → IsValidWeek text n
 unfolding week_number
 week_found text n h =
-    option_and_then_some _ (pair_at 4 (codes "-W") text) n h (λ r e k.
-    let t = some_if (eqb (length r.1) 0) (week_number_of r.0.0 r.0.1) n k in
-    let front = pair_at_reads 4 (codes "-W") text r.1 r.0.0 r.0.1 e in
-    let parts = week_number_of_some r.0.0 r.0.1 n t.1 in
+    option_and_then_some _ (whole_pair (codes "-W") text) n h (λ p e k.
+    let parts = week_number_of_some p.0 p.1 n k in
     record {
-      year = r.0.0;
-      week = r.0.1;
-      spelled = subst (λ x. IsWeekText x r.0.0 r.0.1) (whole_front text front.0 r.1 front.2 t.0) front.1;
+      year = p.0;
+      week = p.1;
+      spelled = whole_pair_found (codes "-W") text p.0 p.1 e;
       from_year_one = parts.0;
       week_in = parts.1;
       number = parts.2;
@@ -109,8 +107,8 @@ week_found text n h =
 pub week_again : (text : List ℕ) (n : ℤ) → IsValidWeek text n → week_number text ≡ Some n
 unfolding week_number
 week_again text n v =
-    let e : pair_at 4 (codes "-W") text ≡ Some ((v.year, v.week), []) = ap (pair_at 4 (codes "-W")) (sym (append-nil text)) ∙ pair_at_again 4 text [] v.year v.week (codes "-W") (λ r. refl) v.spelled in
-    rw e (week_number_of_is v.year v.week v.from_year_one v.week_in ∙ ap Some (sym v.number))
+    rw (whole_pair_again (codes "-W") text v.year v.week (λ r. refl) v.spelled)
+    (week_number_of_is v.year v.week v.from_year_one v.week_in ∙ ap Some (sym v.number))
 
 pub weeks_bound : (y : ℤ) → weeks_of y ≤ 53
 unfolding weeks_of

@@ -99,14 +99,11 @@ pub week_text_back : (n : ℤ) (text : List ℕ) → week_text n ≡ Some text �
 week_text_back n text h = week_again text n (week_text_valid n text h)
 
 -- it is there wherever some valid text has the number
-pub week_text_some : (text : List ℕ) (n : ℤ) → IsValidWeek text n → (short : List ℕ) × (week_text n ≡ Some short)
-week_text_some text n v = (text, week_text_only text n v)
-
 pub week_text_none : (n : ℤ) → week_text n ≡ None → (text : List ℕ) → IsValidWeek text n → ⊥
 week_text_none n h text v = none-some text (sym h ∙ week_text_only text n v)
 
 pub week_number_text : (text : List ℕ) (n : ℤ) → week_number text ≡ Some n → (short : List ℕ) × (week_text n ≡ Some short)
-week_number_text text n h = week_text_some text n (week_found text n h)
+week_number_text text n h = (text, week_text_only text n (week_found text n h))
 
 -- a day number that no Monday of a week has has no text
 pub monday_text_none : (day : ℤ) → ((y w : ℕ) → 1 ≤ y → y ≤ 9999 → IsInRange 1 (weeks_of (pos y)) w → monday_of (pos y) w ≡ day → ⊥) → None ≡ monday_text day

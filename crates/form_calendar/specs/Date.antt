@@ -4,6 +4,7 @@ use Rattle.std.specs.Int.{int_div_euclid, int_rem_euclid}
 use Rattle.jiff_core.specs.declared.civil.date.Date.{Date}
 use Rattle.jiff_core.specs.Date.{epoch_day}
 use Rattle.jiff_core.specs.Calendar.{days_from_civil, days_in_month}
+use Rattle.form_calendar.specs.Bytes.{hyphen}
 use Rattle.form_calendar.specs.Digits.{Writes, padded}
 use Rattle.form_calendar.specs.Reading.{date_at}
 use Rattle.form_calendar.specs.Month.{IsMonthText, year_month_text}
@@ -12,7 +13,7 @@ use Rattle.form_calendar.specs.Month.{IsMonthText, year_month_text}
 pub record IsDateText (text : List ℕ) (year month day : ℕ) : Type 0 where
   pub month_text : List ℕ
   pub day_text : List ℕ
-  pub spelled : text ≡ month_text ++ (45 ∷ day_text)
+  pub spelled : text ≡ month_text ++ (hyphen ∷ day_text)
   pub month_is : IsMonthText month_text year month
   pub day_is : Writes 2 day_text day
 
@@ -45,7 +46,7 @@ last_begun first (suc k) day = if int_lt day (first (suc k)) then last_begun fir
 
 -- the text of a year, month and day
 unfoldable pub civil_text : ℕ → ℕ → ℕ → List ℕ
-civil_text year month day = year_month_text year month ++ (45 ∷ padded 2 day)
+civil_text year month day = year_month_text year month ++ (hyphen ∷ padded 2 day)
 
 -- the year, from 1 to 9999, of a day number
 unfoldable pub year_of_day : ℤ → ℕ

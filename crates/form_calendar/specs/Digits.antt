@@ -2,6 +2,7 @@
 use Rattle.std.specs.Prelude.{◌≡◌, ℕ, ◌-◌, List, ◌++◌, length, replicate}
 use Rattle.std.specs.Fmt.{decimal}
 use Rattle.std.specs.Str.Parse.{digits_value, AllDigits}
+use Rattle.form_calendar.specs.Bytes.{digit_zero}
 
 -- so many ASCII digits that write the number
 pub record Writes (count : ℕ) (text : List ℕ) (n : ℕ) : Type 0 where
@@ -19,7 +20,7 @@ pub record IsPair (count : ℕ) (separator : List ℕ) (text : List ℕ) (first 
 
 -- the number in decimal, with zeros in front up to the width
 unfoldable pub padded : ℕ → ℕ → List ℕ
-padded width n = replicate (width - length (decimal n)) 48 ++ decimal n
+padded width n = replicate (width - length (decimal n)) digit_zero ++ decimal n
 
 -- the text of two numbers with a separator between them
 unfoldable pub pair_text : ℕ → List ℕ → ℕ → ℕ → List ℕ

@@ -1,5 +1,6 @@
 -- Valid local date and time strings (HTML, "Local dates and times").
 use Rattle.std.specs.Prelude.{◌≡◌, ◌⊎◌, ℕ, nat_lt, List, ◌∷◌, ◌++◌, take, drop, length, ℤ, ◌+ℤ◌, Option, None, option_and_then, option_map, if◌then◌else◌}
+use Rattle.form_calendar.specs.Bytes.{upper_t, space}
 use Rattle.form_calendar.specs.Reading.{behind_separator}
 use Rattle.form_calendar.specs.Date.{IsValidDate, date_number, day_text, day_of, clock_of}
 use Rattle.form_calendar.specs.Time.{IsValidTime, time_number, clock_text}
@@ -19,7 +20,7 @@ pub record IsLocalText (separator : ℕ) (text : List ℕ) (n : ℤ) : Type 0 wh
 -- string (HTML, "valid local date and time string"). Its number is the milliseconds from
 -- 1970-01-01T00:00.
 abbrev pub IsValidLocal : List ℕ → ℤ → Type 0
-IsValidLocal text n = IsLocalText 84 text n ⊎ IsLocalText 32 text n
+IsValidLocal text n = IsLocalText upper_t text n ⊎ IsLocalText space text n
 
 -- the number of a valid local date and time string, read from the left: its date has ten bytes
 unfoldable pub local_number : List ℕ → Option ℤ
@@ -32,4 +33,4 @@ local_number text =
 -- The valid normalised local date and time string of the number, where there is one: the date, `T`
 -- and the shortest time (HTML, "valid normalized local date and time string").
 unfoldable pub local_text : ℤ → Option (List ℕ)
-local_text n = option_map (λ date. date ++ (84 ∷ clock_text (clock_of n))) (day_text (day_of n))
+local_text n = option_map (λ date. date ++ (upper_t ∷ clock_text (clock_of n))) (day_text (day_of n))

@@ -1,8 +1,8 @@
 -- Valid month strings (HTML, "Months").
-use Rattle.std.specs.Prelude.{◌≡◌, ℕ, ◌+◌, ◌/◌, ◌%◌, ◌==◌, ◌&&◌, nat_lt, nat_le, ◌≤◌, List, length, ℤ, pos, negsuc, ◌+ℤ◌, ◌-ℤ◌, ◌*ℤ◌, Option, Some, None, option_and_then, if◌then◌else◌, codes}
+use Rattle.std.specs.Prelude.{◌≡◌, ℕ, ◌+◌, ◌/◌, ◌%◌, ◌&&◌, nat_lt, nat_le, ◌≤◌, List, ℤ, pos, negsuc, ◌+ℤ◌, ◌-ℤ◌, ◌*ℤ◌, Option, Some, None, option_and_then, if◌then◌else◌, codes}
 use Rattle.std.specs.Int.{IsInRange}
 use Rattle.form_calendar.specs.Digits.{IsPair, pair_text}
-use Rattle.form_calendar.specs.Reading.{pair_at}
+use Rattle.form_calendar.specs.Reading.{whole_pair}
 
 -- `YYYY-MM`
 abbrev pub IsMonthText : List ℕ → ℕ → ℕ → Type 0
@@ -30,9 +30,7 @@ month_number_of year month =
 
 -- the number of a valid month string, read from the left
 unfoldable pub month_number : List ℕ → Option ℤ
-month_number text =
-    option_and_then (λ r. if length r.1 == 0 then month_number_of r.0.0 r.0.1 else None)
-    (pair_at 4 (codes "-") text)
+month_number text = option_and_then (λ p. month_number_of p.0 p.1) (whole_pair (codes "-") text)
 
 -- the text of a year and month
 abbrev pub year_month_text : ℕ → ℕ → List ℕ

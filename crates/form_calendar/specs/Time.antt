@@ -1,6 +1,7 @@
 -- Valid time strings (HTML, "Times").
 use Rattle.std.specs.Prelude.{◌≡◌, ◌⊎◌, ℕ, ◌+◌, ◌*◌, ◌/◌, ◌%◌, ◌^◌, ◌==◌, nat_lt, ◌≤◌, List, [], ◌∷◌, ◌++◌, length, ℤ, pos, negsuc, Option, Some, None, option_and_then, option_map, if◌then◌else◌, codes}
 use Rattle.std.specs.Int.{IsInRange}
+use Rattle.form_calendar.specs.Bytes.{dot, colon}
 use Rattle.form_calendar.specs.Digits.{Writes, IsPair, padded, pair_text}
 use Rattle.form_calendar.specs.Reading.{number_after, number_at, pair_at}
 
@@ -9,7 +10,7 @@ pub record IsSpelledFraction (text : List ℕ) (millisecond : ℕ) : Type 0 wher
   pub digits : List ℕ
   pub count : ℕ
   pub value : ℕ
-  pub spelled : text ≡ 46 ∷ digits
+  pub spelled : text ≡ dot ∷ digits
   pub digits_are : Writes count digits value
   pub count_in : IsInRange 1 3 count
   pub means : millisecond * 10 ^ count ≡ value * 1000
@@ -22,7 +23,7 @@ IsFraction text millisecond = ((text ≡ []) × (millisecond ≡ 0)) ⊎ IsSpell
 pub record IsSpelledSeconds (text : List ℕ) (second millisecond : ℕ) : Type 0 where
   pub second_text : List ℕ
   pub fraction_text : List ℕ
-  pub spelled : text ≡ 58 ∷ second_text ++ fraction_text
+  pub spelled : text ≡ colon ∷ second_text ++ fraction_text
   pub second_is : Writes 2 second_text second
   pub second_in : second ≤ 59
   pub fraction_is : IsFraction fraction_text millisecond
@@ -68,14 +69,14 @@ fraction_unit count =
 unfoldable pub fraction_number : List ℕ → Option ℕ
 fraction_number [] = Some 0
 fraction_number (x ∷ digits) =
-    if x == 46 then option_and_then (λ unit. option_map (λ value. value * unit)
+    if x == dot then option_and_then (λ unit. option_map (λ value. value * unit)
     (number_after 0 digits)) (fraction_unit (length digits)) else None
 
 -- the milliseconds of what stands behind the minute, read from the left
 unfoldable pub seconds_number : List ℕ → Option ℕ
 seconds_number [] = Some 0
 seconds_number (x ∷ rest) =
-    if x == 58 then option_and_then (λ second. if nat_lt 59 second.0 then None
+    if x == colon then option_and_then (λ second. if nat_lt 59 second.0 then None
     else option_map (λ millisecond. second.0 * 1000 + millisecond) (fraction_number second.1))
     (number_at 2 rest) else None
 
@@ -93,15 +94,15 @@ time_number text = option_map pos (clock_read text)
 unfoldable pub shortest_fraction : ℕ → List ℕ
 shortest_fraction millisecond =
     if millisecond == 0 then []
-    else (if millisecond % 100 == 0 then 46 ∷ padded 1 (millisecond / 100)
-    else (if millisecond % 10 == 0 then 46 ∷ padded 2 (millisecond / 10)
-    else 46 ∷ padded 3 millisecond))
+    else (if millisecond % 100 == 0 then dot ∷ padded 1 (millisecond / 100)
+    else (if millisecond % 10 == 0 then dot ∷ padded 2 (millisecond / 10)
+    else dot ∷ padded 3 millisecond))
 
 -- the shortest seconds: none where they and the milliseconds are zero
 unfoldable pub shortest_seconds : ℕ → List ℕ
 shortest_seconds milliseconds =
     if milliseconds == 0 then []
-    else 58 ∷ padded 2 (milliseconds / 1000) ++ shortest_fraction (milliseconds % 1000)
+    else colon ∷ padded 2 (milliseconds / 1000) ++ shortest_fraction (milliseconds % 1000)
 
 -- the shortest time of so many milliseconds from midnight
 unfoldable pub clock_text : ℕ → List ℕ

@@ -1,9 +1,9 @@
 -- Valid week strings (HTML, "Weeks").
-use Rattle.std.specs.Prelude.{◌≡◌, ℕ, ◌+◌, ◌-◌, ◌*◌, ◌/◌, ◌%◌, ◌==◌, ◌||◌, ◌&&◌, nat_le, ◌≤◌, List, length, ℤ, pos, ◌+ℤ◌, ◌-ℤ◌, ◌*ℤ◌, unsigned_abs, Option, Some, None, option_and_then, if◌then◌else◌, codes}
+use Rattle.std.specs.Prelude.{◌≡◌, ℕ, ◌+◌, ◌-◌, ◌*◌, ◌/◌, ◌%◌, ◌==◌, ◌||◌, ◌&&◌, nat_le, ◌≤◌, List, ℤ, pos, ◌+ℤ◌, ◌-ℤ◌, ◌*ℤ◌, unsigned_abs, Option, Some, None, option_and_then, if◌then◌else◌, codes}
 use Rattle.std.specs.Int.{IsInRange}
 use Rattle.jiff_core.specs.Calendar.{days_from_civil, weekday_number, is_leap_year, iso_year_start}
 use Rattle.form_calendar.specs.Digits.{IsPair, pair_text}
-use Rattle.form_calendar.specs.Reading.{pair_at}
+use Rattle.form_calendar.specs.Reading.{whole_pair}
 use Rattle.form_calendar.specs.Date.{last_begun, day_of, clock_of}
 
 -- The weeks of a year: 53 where its 1 January is a Thursday, or is a Wednesday and the year is a
@@ -40,9 +40,7 @@ week_number_of year week =
 
 -- the number of a valid week string, read from the left
 unfoldable pub week_number : List ℕ → Option ℤ
-week_number text =
-    option_and_then (λ r. if length r.1 == 0 then week_number_of r.0.0 r.0.1 else None)
-    (pair_at 4 (codes "-W") text)
+week_number text = option_and_then (λ p. week_number_of p.0 p.1) (whole_pair (codes "-W") text)
 
 -- the text of a year and week
 abbrev pub year_week_text : ℕ → ℕ → List ℕ

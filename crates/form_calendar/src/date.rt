@@ -82,7 +82,7 @@ pub fn date_in(text: &[u8]) -> Option<i64>
 }
 
 // The text of a year, month and day.
-#[tactic(auto, using(crate::proofs::PrintLemmas::hole_padded, crate::proofs::PrintLemmas::pair_and_more), unfolding(crate::specs::Date::civil_text))]
+#[tactic(auto, using(crate::proofs::PrintLemmas::date_holes), unfolding(crate::specs::Date::civil_text))]
 fn civil_string(alloc: Global, year: u16, month: u8, day: u8) -> Result<String, AllocError>
     ensures { IfOk result (λ s. string_bytes s ≡ civil_text year month day) }
 {

@@ -1,6 +1,6 @@
 //! Numbers in a fixed number of digits, and the bytes between them.
-ghost use Rattle.std.specs.Prelude.{◌≡◌, ◌≤◌, ◌<◌, ◌^◌, IfSome, option_map, length};
-ghost use Rattle.form_calendar.specs.Reading.{number_after, number_at, behind, pair_at};
+ghost use Rattle.std.specs.Prelude.{◌≡◌, ◌≤◌, ◌<◌, IfSome, option_map, length};
+ghost use Rattle.form_calendar.specs.Reading.{number_after, number_at, behind, pair_at, whole_pair};
 
 // The number that all of the digits write.
 pub fn number(digits: &[u8]) -> Option<u16>
@@ -47,6 +47,21 @@ pub fn pair_front<'a>(
     let rest = behind(rest, separator)?;
     let (second, rest) = number_front(rest, 2)?;
     Some(((first, second), rest))
+}
+
+// A year and a second number with a separator between them, which are the whole text.
+#[tactic(auto, unfolding(crate::specs::Reading::whole_pair))]
+pub fn whole_pair(text: &[u8], separator: &[u8]) -> Option<(u16, u16)>
+    ensures value { result ≡ whole_pair separator.now text.now }
+    ensures bound { IfSome result (λ x. (x.0 < 10000) × (x.1 < 10000)) }
+{
+    let Some((pair, rest)) = pair_front(text, 4, separator) else {
+        return None;
+    };
+    if !rest.is_empty() {
+        return None;
+    }
+    Some(pair)
 }
 
 // What stands behind the front, if the text begins with it.

@@ -3,7 +3,7 @@ ghost use Rattle.std.specs.Prelude.{◌≡◌, ◌<◌, ◌≤◌, ◌+ℤ◌, p
 ghost use Rattle.form_calendar.specs.Month.{IsValidMonth, month_number, month_number_of, month_text, year_month_text};
 ghost use Rattle.form_calendar.specs.Shortest.{IsShortest};
 
-use crate::digits::pair_front;
+use crate::digits::whole_pair;
 use std::alloc::{AllocError, Global};
 
 // The months from January 1970 to a month of a year from 1 on.
@@ -29,12 +29,9 @@ fn months_from_1970(year: u16, month: u16) -> Option<i64>
 fn month_in(text: &[u8]) -> Option<i64>
     ensures { result ≡ month_number text.now }
 {
-    let Some(((year, month), rest)) = pair_front(text, 4, b"-") else {
+    let Some((year, month)) = whole_pair(text, b"-") else {
         return None;
     };
-    if !rest.is_empty() {
-        return None;
-    }
     months_from_1970(year, month)
 }
 

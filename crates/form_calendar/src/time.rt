@@ -1,6 +1,6 @@
 //! Times.
 ghost use Rattle.form_calendar.specs.Digits.{padded, pair_text};
-ghost use Rattle.std.specs.Prelude.{codes, ◌∷◌, ◌≡◌, ◌<◌, ◌≤◌, ◌++◌, IfSome, IfNone, IfOk, OnOk, Some, option_map, ℕ, ℤ, List, length, string_bytes, unsigned_abs, ◌^◌};
+ghost use Rattle.std.specs.Prelude.{codes, ◌∷◌, ◌≡◌, ◌<◌, ◌≤◌, ◌++◌, IfSome, IfNone, IfOk, OnOk, Some, option_map, ℕ, ℤ, List, string_bytes, unsigned_abs, ◌^◌};
 ghost use Rattle.form_calendar.specs.Time.{IsValidTime, fraction_unit, fraction_number, seconds_number, clock_read, time_number, shortest_fraction, shortest_seconds, clock_text, time_text};
 ghost use Rattle.form_calendar.specs.Shortest.{IsShortest};
 

@@ -4,7 +4,7 @@ ghost use Rattle.form_calendar.specs.Week.{IsValidWeek, week_number, week_number
 ghost use Rattle.form_calendar.specs.Shortest.{IsShortest};
 
 use crate::date::{DAY, clock_of, day_of};
-use crate::digits::pair_front;
+use crate::digits::whole_pair;
 use jiff_core::civil::{Date, ISOWeekDate, Weekday};
 use std::alloc::{AllocError, Global};
 
@@ -39,12 +39,9 @@ fn monday_of(year: u16, week: u16) -> Option<i64>
 fn week_in(text: &[u8]) -> Option<i64>
     ensures { result ≡ week_number text.now }
 {
-    let Some(((year, week), rest)) = pair_front(text, 4, b"-W") else {
+    let Some((year, week)) = whole_pair(text, b"-W") else {
         return None;
     };
-    if !rest.is_empty() {
-        return None;
-    }
     monday_of(year, week)
 }
 

@@ -1,5 +1,5 @@
 -- The nearest candidate is the nearer one of the two beside the number.
-use Rattle.std.proofs.Common.{◌≡◌, ℕ, ◌≤◌, ◌^◌, zero, suc, refl, ap, sym, subst, inl, inr, arith, ℤ, pos, negsuc, ◌+ℤ◌, ◌-ℤ◌, ◌*ℤ◌, ◌≤ℤ◌, ◌<ℤ◌, Option, Some, None, IfSome, IfNone, IsSome, neg_ℤ, unsigned_abs, int_lt, true, false}
+use Rattle.std.proofs.Common.{is_lt, int_cmp, Less, Greater, Equal, Bool, cond, ◌≡◌, ℕ, ◌≤◌, ◌^◌, zero, suc, refl, ap, sym, subst, inl, inr, arith, ℤ, pos, negsuc, ◌+ℤ◌, ◌-ℤ◌, ◌*ℤ◌, ◌≤ℤ◌, ◌<ℤ◌, Option, Some, None, IfSome, IfNone, IsSome, neg_ℤ, unsigned_abs, int_lt, true, false}
 use Rattle.std.proofs.lemmas.Int.{ints, by_lt_z}
 use Rattle.form_decimal.specs.Alignment.{IsAligned, IsCandidate, IsNearestAligned}
 use Rattle.form_decimal.specs.Neighbours.{IsGreatest, IsLeast, IsLower, IsUpper, IsNearer}
@@ -12,6 +12,15 @@ lt_true a b h = grind (arith, ints)
 -- and where it does not
 pub lt_false : (a b : ℤ) → int_lt a b ≡ false → b ≤ℤ a
 lt_false a b h = grind (arith, ints)
+
+-- what `<` answers is that test
+pub below_is : (a b : ℤ) → is_lt (int_cmp a b) ≡ int_lt a b
+below_is a b = go (int_lt a b) (int_lt b a)
+  where
+    go : (x y : Bool) → is_lt (cond x Less (cond y Greater Equal)) ≡ x
+    go true y = refl
+    go false true = refl
+    go false false = refl
 
 -- an aligned number less than a step below the limit is the greatest one up to it
 pub greatest_found : (base step limit c : ℤ) → pos 1 ≤ℤ step → IsAligned c base step → c ≤ℤ limit → limit <ℤ (c +ℤ step) → IsGreatest base step limit c

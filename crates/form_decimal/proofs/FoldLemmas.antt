@@ -6,16 +6,8 @@ use Rattle.std.proofs.lemmas.Bool.{eqb-true, and_parts, cases_lt}
 use Rattle.std.proofs.lemmas.Bool.Decides.{nat_tests}
 use Rattle.std.proofs.lemmas.Int.{ints}
 use Rattle.form_decimal.specs.Alignment.{IsAligned, IsCandidate, IsNearestAligned, distance}
-use Rattle.form_decimal.specs.Nearest.{is_same, is_aligned, is_up_to, is_candidate, nth, nearer_of, nearest_among, nearest_of}
+use Rattle.form_decimal.specs.Nearest.{is_aligned, is_up_to, is_candidate, nth, nearer_of, nearest_among, nearest_of}
 use Rattle.form_decimal.proofs.AlignedLemmas.{aligned_from_rem, rem_from_aligned}
-
--- two numbers of which neither is below the other are one
-pub same_true : (a b : ℤ) → is_same a b ≡ true → a ≡ b
-same_true a b h = grind (arith, ints)
-
--- a number is the same as itself
-pub true_same : (a : ℤ) → is_same a a ≡ true
-true_same a = grind (arith, ints)
 
 -- the test of at most, where it holds
 pub le_true : (a b : ℕ) → nat_le a b ≡ true → a ≤ b
@@ -43,16 +35,16 @@ abs_zero (pos a) h = ap pos h
 abs_zero (negsuc a) h = absurd (omega (arith, ints))
 
 -- the test of alignment gives alignment
-pub aligned_true : (n base step : ℤ) → pos 1 ≤ℤ step → is_aligned n base step ≡ true → IsAligned n base step
+pub aligned_found : (n base step : ℤ) → pos 1 ≤ℤ step → is_aligned n base step ≡ true → IsAligned n base step
 unfolding is_aligned
-aligned_true n base (pos s) some h = aligned_from_rem n base s (omega (arith, ints)) (abs_zero (int_rem_euclid (n -ℤ base) (pos s)) (eqb-true (unsigned_abs (int_rem_euclid (n -ℤ base) (pos s))) 0 h))
-aligned_true n base (negsuc s) some h = absurd (omega (arith, ints))
+aligned_found n base (pos s) some h = aligned_from_rem n base s (omega (arith, ints)) (abs_zero (int_rem_euclid (n -ℤ base) (pos s)) (eqb-true (unsigned_abs (int_rem_euclid (n -ℤ base) (pos s))) 0 h))
+aligned_found n base (negsuc s) some h = absurd (omega (arith, ints))
 
 -- and alignment passes the test
-pub true_aligned : (n base step : ℤ) → pos 1 ≤ℤ step → IsAligned n base step → is_aligned n base step ≡ true
+pub aligned_again : (n base step : ℤ) → pos 1 ≤ℤ step → IsAligned n base step → is_aligned n base step ≡ true
 unfolding is_aligned
-true_aligned n base (pos s) some h = rw (rem_from_aligned n base s (omega (arith, ints)) h) refl
-true_aligned n base (negsuc s) some h = absurd (omega (arith, ints))
+aligned_again n base (pos s) some h = rw (rem_from_aligned n base s (omega (arith, ints)) h) refl
+aligned_again n base (negsuc s) some h = absurd (omega (arith, ints))
 
 -- two tests that hold together are one
 same_bool : (a b : Bool) → (a ≡ true → b ≡ true) → (b ≡ true → a ≡ true) → a ≡ b
@@ -62,7 +54,7 @@ same_bool false false f g = refl
 
 -- an answer that decides alignment is the test
 pub aligned_decided : (r : Bool) (n base step : ℤ) → pos 1 ≤ℤ step → (IsTrue r → IsAligned n base step) × (IsAligned n base step → IsTrue r) → r ≡ is_aligned n base step
-aligned_decided r n base step some h = same_bool r (is_aligned n base step) (λ e. true_aligned n base step some (h.0 e)) (λ e. h.1 (aligned_true n base step some e))
+aligned_decided r n base step some h = same_bool r (is_aligned n base step) (λ e. aligned_again n base step some (h.0 e)) (λ e. h.1 (aligned_found n base step some e))
 
 -- the test of the upper bound gives the bound
 up_to_true : (high : Option ℤ) (c : ℤ) → is_up_to high c ≡ true → IfSome high (λ h. c ≤ℤ h)
@@ -93,11 +85,11 @@ tests_of base step low high c h =
 candidate_true : (base step low : ℤ) (high : Option ℤ) (c : ℤ) → pos 1 ≤ℤ step → is_candidate base step low high c ≡ true → IsCandidate base step low high c
 candidate_true base step low high c some h =
     let t = tests_of base step low high c h in
-    record { aligned = aligned_true c base step some t.aligned; low_enough = t.low_enough; high_enough = t.high_enough; fits = t.fits }
+    record { aligned = aligned_found c base step some t.aligned; low_enough = t.low_enough; high_enough = t.high_enough; fits = t.fits }
 
 -- and a candidate passes them
 true_candidate : (base step low : ℤ) (high : Option ℤ) (c : ℤ) → pos 1 ≤ℤ step → IsCandidate base step low high c → is_candidate base step low high c ≡ true
-true_candidate base step low high c some k = rw (true_aligned c base step some k.aligned, lt_not c low k.low_enough, true_up_to high c k.high_enough, true_le _ _ k.fits) refl
+true_candidate base step low high c some k = rw (aligned_again c base step some k.aligned, lt_not c low k.low_enough, true_up_to high c k.high_enough, true_le _ _ k.fits) refl
 
 -- ---- the best of the first k
 

@@ -1,9 +1,9 @@
-pub mod ScalingLemmas
-pub mod SpellingLemmas
-pub mod AlignedLemmas
-pub mod NearestLemmas
-pub mod ChoiceLemmas
-pub mod PrintLemmas
-pub mod MeaningLemmas
-pub mod FoldLemmas
+mod ScalingLemmas
+mod SpellingLemmas
+mod AlignedLemmas
+mod NearestLemmas
+mod ChoiceLemmas
+mod PrintLemmas
+mod MeaningLemmas
+mod FoldLemmas
 pub mod Laws

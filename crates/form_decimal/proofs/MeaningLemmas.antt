@@ -1,16 +1,18 @@
 -- The number of a text as a function is the number that it means.
-use Rattle.std.proofs.Common.{◌≡◌, ℕ, ◌+◌, ◌*◌, ◌/◌, ◌%◌, ◌^◌, ◌<◌, ◌≤◌, ◌++◌, zero, suc, Bool, true, false, ◌&&◌, not, List, [], ◌∷◌, length, drop, Option, Some, None, IfSome, option_and_then, refl, ap, sym, subst, ◌∙◌, arith, eqb, append-nil, length-append, ℤ, pos, negsuc, ◌*ℤ◌, unsigned_abs}
+use Rattle.std.proofs.Common.{◌≡◌, ℕ, ◌+◌, ◌*◌, ◌/◌, ◌%◌, ◌^◌, ◌<◌, ◌≤◌, ◌++◌, zero, suc, Bool, true, false, ◌&&◌, not, List, [], ◌∷◌, length, Option, Some, None, IfSome, option_and_then, refl, ap, sym, subst, ◌∙◌, arith, eqb, append-nil, length-append, ℤ, pos, negsuc, ◌*ℤ◌, unsigned_abs}
 use Rattle.std.specs.Prelude.{nat_le}
 use Rattle.std.proofs.lemmas.Bool.{eqb-true, eq-eqb, and_parts}
 use Rattle.std.proofs.lemmas.Int.{ints}
-use Rattle.std.proofs.lemmas.Option.{option_and_then_some}
+use Rattle.std.proofs.lemmas.Option.{option_and_then_some, same_Some}
 use Rattle.std.proofs.Math.Nat.{mul-div_cancel, mul-mod_left, div-add-mod', le-mul_of_pos_right}
-use Rattle.form_decimal.specs.Numeral.{Numeral, IsValidNumber, IsLenientNumber, IsLenientForm, IsLongest, Means, signed, is_minus, coefficient, raised_by, space_len, numeral_text}
+use Rattle.form_decimal.specs.declared.spelling.Sign.{Sign}
+use Rattle.form_decimal.specs.declared.spelling.Sign.TheVariants.{Plus, Minus}
+use Rattle.form_decimal.specs.Numeral.{Numeral, IsValidNumber, IsLenientNumber, IsLenientForm, IsLongest, Means, signed, is_minus, coefficient, raised_by, numeral_text, behind_whitespace}
 use Rattle.form_decimal.specs.Spelling.{numeral_front, behind_made, is_valid, is_plus, is_bare}
 use Rattle.form_decimal.specs.Scaled.{Units}
 use Rattle.form_decimal.specs.Reading.{over, under, meant, meant_alone, meant_front, valid_number, lenient_number}
 use Rattle.form_decimal.proofs.ScalingLemmas.{ten_pos}
-use Rattle.form_decimal.proofs.SpellingLemmas.{some_if, some_same, front_found, front_again}
+use Rattle.form_decimal.proofs.SpellingLemmas.{some_if, front_found, front_again}
 use Rattle.form_decimal.proofs.FoldLemmas.{le_true, true_le}
 
 -- ---- the equation over signed numbers is one over magnitudes
@@ -59,7 +61,7 @@ meant_units n c h =
     let s = and_parts (eqb (over n % under n) 0) (nat_le (over n / under n) (10 ^ 29)) t.0 in
     let none : over n % under n ≡ 0 = eqb-true (over n % under n) 0 s.0 in
     let whole : over n / under n * under n + over n % under n ≡ over n = div-add-mod' (over n) (under n) in
-    (over n / under n, sym (some_same (signed (is_minus n.sign) (over n / under n)) c t.1), (le_true _ _ s.1, omega (arith, none, whole)))
+    (over n / under n, sym (same_Some (signed (is_minus n.sign) (over n / under n)) c t.1), (le_true _ _ s.1, omega (arith, none, whole)))
 
 -- the units of the numeral are what the function gives
 pub meant_some : (n : Numeral) (m : ℕ) → Units n m → meant n ≡ Some (signed (is_minus n.sign) m)
@@ -92,18 +94,18 @@ meant_again n c h b = let m = means_units n c h b in meant_some n m.0 m.2 ∙ ap
 -- ---- the number of a text
 
 -- what passes the test has no `+`
-plus_not : (s : Option Bool) → not (is_plus s) ≡ true → s ≡ Some false → ⊥
-plus_not s t e = let bad : not (is_plus (Some false)) ≡ true = subst (λ x. not (is_plus x) ≡ true) e t in cc
+plus_not : (s : Option Sign) → not (is_plus s) ≡ true → s ≡ Some Plus → ⊥
+plus_not s t e = let bad : not (is_plus (Some Plus)) ≡ true = subst (λ x. not (is_plus x) ≡ true) e t in cc
 
 -- what passes the test has digits behind a point
 bare_not : (f : Option (List ℕ)) → not (is_bare f) ≡ true → f ≡ Some [] → ⊥
 bare_not f t e = let bad : not (is_bare (Some [])) ≡ true = subst (λ x. not (is_bare x) ≡ true) e t in cc
 
 -- no `+` passes the test
-not_plus : (s : Option Bool) → (s ≡ Some false → ⊥) → not (is_plus s) ≡ true
+not_plus : (s : Option Sign) → (s ≡ Some Plus → ⊥) → not (is_plus s) ≡ true
 not_plus None h = refl
-not_plus (Some true) h = refl
-not_plus (Some false) h = absurd (h refl)
+not_plus (Some Minus) h = refl
+not_plus (Some Plus) h = absurd (h refl)
 
 -- digits behind a point pass the test
 not_bare : (f : Option (List ℕ)) → (f ≡ Some [] → ⊥) → not (is_bare f) ≡ true
@@ -160,15 +162,15 @@ valid_bound text c h = (valid_found text c h).fits
 -- the same of the longest front
 pub lenient_found : (text : List ℕ) (c : ℤ) → lenient_number text ≡ Some c → IsLenientNumber text c
 unfolding lenient_number
-lenient_found text c h = option_and_then_some meant_front (numeral_front (drop (space_len text) text)) c h (λ x e g.
+lenient_found text c h = option_and_then_some meant_front (numeral_front (behind_whitespace text)) c h (λ x e g.
     let m = meant_found x.0 c g in
-    record { numeral = x.0; longest = (front_found (drop (space_len text) text) x e).0; means = m.0; fits = m.1 })
+    record { numeral = x.0; longest = (front_found (behind_whitespace text) x e).0; means = m.0; fits = m.1 })
 
 -- and back
 pub lenient_again : (text : List ℕ) (c : ℤ) → IsLenientNumber text c → lenient_number text ≡ Some c
 unfolding lenient_number
 lenient_again text c h =
-    ap (option_and_then meant_front) (front_again (drop (space_len text) text) h.numeral h.longest) ∙ meant_again h.numeral c h.means h.fits
+    ap (option_and_then meant_front) (front_again (behind_whitespace text) h.numeral h.longest) ∙ meant_again h.numeral c h.means h.fits
 
 -- it is a decimal
 pub lenient_bound : (text : List ℕ) (c : ℤ) → lenient_number text ≡ Some c → unsigned_abs c ≤ 10 ^ 29

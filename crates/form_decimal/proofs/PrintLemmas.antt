@@ -1,5 +1,5 @@
 -- What is printed has the printed form, and no other text has.
-use Rattle.std.proofs.Common.{◌≡◌, ℕ, zero, suc, ◌+◌, ◌-◌, ◌*◌, ◌/◌, ◌%◌, ◌^◌, ◌<◌, ◌≤◌, ◌++◌, List, [], ◌∷◌, length, get_or, drop, Bool, true, false, Option, Some, None, IfOk, Result, Ok, Err, refl, ap, sym, subst, ◌∙◌, arith, eqb, append-nil, length-append, inl, inr, ◌⊎◌, ℤ, pos, negsuc, ◌<ℤ◌, unsigned_abs, lit<}
+use Rattle.std.proofs.Common.{◌≡◌, ℕ, zero, suc, ◌+◌, ◌-◌, ◌*◌, ◌/◌, ◌%◌, ◌^◌, ◌<◌, ◌≤◌, ◌++◌, List, [], ◌∷◌, length, get_or, drop, false, Option, Some, None, IfOk, Result, Ok, Err, refl, ap, sym, subst, ◌∙◌, arith, eqb, append-nil, length-append, inl, inr, ◌⊎◌, ℤ, pos, negsuc, ◌<ℤ◌, unsigned_abs, lit<}
 use Rattle.std.proofs.lemmas.Bool.{cases_lt}
 use Rattle.std.proofs.lemmas.Bool.Decides.{nat_tests}
 use Rattle.std.proofs.Math.Nat.{mul_assoc, mul_comm, add-mul, mul-le-mul_right}
@@ -10,10 +10,13 @@ use Rattle.std.proofs.lemmas.Str.Parse.{IsNumeralModel}
 use Rattle.std.specs.Fmt.{decimal}
 use Rattle.std.specs.Char.{digit_value}
 use Rattle.std.specs.Str.Parse.{AllDigits, digits_value_after, digits_value}
+use Rattle.form_decimal.proofs.SpellingLemmas.{true_digit}
+use Rattle.form_decimal.specs.declared.spelling.Sign.{Sign}
+use Rattle.form_decimal.specs.declared.spelling.Sign.TheVariants.{Plus, Minus}
 use Rattle.form_decimal.specs.Numeral.{Numeral, IsValidForm, Means, AreDigits, coefficient, signed, is_minus, raised_by, lowered_by, sign_text, point_text, exponent_text, places}
 use Rattle.form_decimal.specs.Scaled.{Units}
-use Rattle.form_decimal.specs.Printed.{IsPrinted, fraction_digits, fraction_of, magnitude_text, printed}
-use Rattle.form_decimal.proofs.ScalingLemmas.{pow-join, value-append, cancel, ten_pos, digit_is, no_scale}
+use Rattle.form_decimal.specs.Printed.{IsPrinted, fraction_digits, fraction_of, printed}
+use Rattle.form_decimal.proofs.ScalingLemmas.{pow-join, value-append, cancel, ten_pos, no_scale}
 use Rattle.form_decimal.proofs.MeaningLemmas.{units_means, means_units, abs_signed}
 
 -- nothing is left: no digit more
@@ -145,11 +148,11 @@ no_zero_first zero ds h e = ap (drop 1) (sym e ∙ decimal_digit 0 (lit< tt))
 no_zero_first (suc n) ds h e = absurd (omega (arith, first_decimal (suc n) (omega arith) h, ap (λ l. get_or l 0 0) e))
 
 -- the numeral that is printed
-abbrev printed_numeral : Option Bool → ℕ → Numeral
+abbrev printed_numeral : Option Sign → ℕ → Numeral
 printed_numeral sign m = record { sign = sign; whole = decimal (m / 10 ^ 12); fraction = fraction_of (fraction_digits 12 (m % 10 ^ 12)); exponent = None }
 
 -- it is valid
-printed_form : (sign : Option Bool) (m : ℕ) → m ≤ 10 ^ 29 → (sign ≡ Some false → ⊥) → IsValidForm (printed_numeral sign m)
+printed_form : (sign : Option Sign) (m : ℕ) → m ≤ 10 ^ 29 → (sign ≡ Some Plus → ⊥) → IsValidForm (printed_numeral sign m)
 printed_form sign m b s =
     let whole = decimal_is_IsNumeral_wide (m / 10 ^ 12) (omega arith) in
     let f = fraction_digits 12 (m % 10 ^ 12) in
@@ -165,7 +168,7 @@ printed_form sign m b s =
     }
 
 -- it means the magnitude
-printed_units : (sign : Option Bool) (m : ℕ) → m ≤ 10 ^ 29 → Units (printed_numeral sign m) m
+printed_units : (sign : Option Sign) (m : ℕ) → m ≤ 10 ^ 29 → Units (printed_numeral sign m) m
 printed_units sign m b =
     let w = m / 10 ^ 12 in
     let r = m % 10 ^ 12 in
@@ -175,8 +178,12 @@ printed_units sign m b =
     let parts : w * 10 ^ 12 + r ≡ m = omega arith in
     rw (places_of f) (b, ap (λ x. m * 10 ^ x) (omega arith) ∙ ap (λ x. x * 10 ^ length f) (sym parts) ∙ sym scaled ∙ ap (λ x. x * 10 ^ 12) (sym value))
 
+-- a magnitude, printed
+abbrev magnitude_text : ℕ → List ℕ
+magnitude_text m = decimal (m / 10 ^ 12) ++ point_text (fraction_of (fraction_digits 12 (m % 10 ^ 12)))
+
 -- a text that is spelled so is the printed form of what it means
-printed_so : (sign : Option Bool) (m : ℕ) (n : ℤ) (text : List ℕ) → m ≤ 10 ^ 29 → n ≡ signed (is_minus sign) m → (sign ≡ Some false → ⊥) → (sign ≡ Some true → n <ℤ pos 0) → text ≡ sign_text sign ++ magnitude_text m → IsPrinted n text
+printed_so : (sign : Option Sign) (m : ℕ) (n : ℤ) (text : List ℕ) → m ≤ 10 ^ 29 → n ≡ signed (is_minus sign) m → (sign ≡ Some Plus → ⊥) → (sign ≡ Some Minus → n <ℤ pos 0) → text ≡ sign_text sign ++ magnitude_text m → IsPrinted n text
 printed_so sign m n text b is plus minus e =
     let f = fraction_digits 12 (m % 10 ^ 12) in
     record {
@@ -197,7 +204,7 @@ printed_so sign m n text b is plus minus e =
 -- what is printed has the printed form
 pub printed_is : (n : ℤ) → unsigned_abs n ≤ 10 ^ 29 → IsPrinted n (printed n)
 printed_is (pos m) h = printed_so None m (pos m) (printed (pos m)) h refl (λ e. cc) (λ e. cc) refl
-printed_is (negsuc m) h = printed_so (Some true) (suc m) (negsuc m) (printed (negsuc m)) h refl (λ e. cc) (λ e. omega (arith, ints)) refl
+printed_is (negsuc m) h = printed_so (Some Minus) (suc m) (negsuc m) (printed (negsuc m)) h refl (λ e. cc) (λ e. omega (arith, ints)) refl
 
 -- ---- no other text has it
 
@@ -235,7 +242,7 @@ plain_of n text p =
 last_counts : (f : List ℕ) (a : ℕ) → AreDigits f → 0 < length f → ((ds : List ℕ) → f ≡ ds ++ (48 ∷ []) → ⊥) → 0 < digits_value_after 10 a f % 10
 last_counts [] a p some h = absurd (omega arith)
 last_counts (d ∷ []) a p some h =
-    let is = digit_is d p.0 in
+    let is = true_digit d p.0 in
     elim (cases_lt 48 d) [
       | inl more ↦ let v : (a * 10 + digit_value d) % 10 ≡ digit_value d = omega (arith, is) in omega (arith, is, v)
       | inr less ↦ absurd (h [] (ap (λ x. x ∷ []) (let same : d ≡ 48 = omega (arith, is) in same)))
@@ -266,8 +273,8 @@ same_digits [] (y ∷ ys) a b p q l e = absurd (omega arith)
 same_digits (x ∷ xs) [] a b p q l e = absurd (omega arith)
 same_digits (x ∷ xs) (y ∷ ys) a b p q l e =
     let r = same_digits xs ys (a * 10 + digit_value x) (b * 10 + digit_value y) p.1 q.1 (omega arith) e in
-    let i = digit_is x p.0 in
-    let j = digit_is y q.0 in
+    let i = true_digit x p.0 in
+    let j = true_digit y q.0 in
     let same : x ≡ y = omega (arith, r.0, i, j) in
     (omega (arith, r.0, i, j), ap (λ z. z ∷ xs) same ∙ ap (λ z. y ∷ z) r.1)
 
@@ -320,17 +327,17 @@ same_plain m w f v g x y =
     (sym (whole_is m w f x) ∙ ap decimal same.0 ∙ whole_is m v g y, same.1)
 
 -- the sign that a printed form has
-abbrev sign_of : ℤ → Option Bool
+abbrev sign_of : ℤ → Option Sign
 sign_of (pos m) = None
-sign_of (negsuc m) = Some true
+sign_of (negsuc m) = Some Minus
 
 -- a printed form has that sign
-sign_is : (n : ℤ) (s : Option Bool) (m : ℕ) → (s ≡ Some false → ⊥) → (s ≡ Some true → n <ℤ pos 0) → n ≡ signed (is_minus s) m → s ≡ sign_of n
-sign_is n (Some false) m plus minus e = absurd (plus refl)
+sign_is : (n : ℤ) (s : Option Sign) (m : ℕ) → (s ≡ Some Plus → ⊥) → (s ≡ Some Minus → n <ℤ pos 0) → n ≡ signed (is_minus s) m → s ≡ sign_of n
+sign_is n (Some Plus) m plus minus e = absurd (plus refl)
 sign_is (pos k) None m plus minus e = refl
 sign_is (negsuc k) None m plus minus e = cc
-sign_is (pos k) (Some true) m plus minus e = absurd (let below = minus refl in omega (arith, ints, below))
-sign_is (negsuc k) (Some true) m plus minus e = refl
+sign_is (pos k) (Some Minus) m plus minus e = absurd (let below = minus refl in omega (arith, ints, below))
+sign_is (negsuc k) (Some Minus) m plus minus e = refl
 
 -- the same of a whole text
 sign_printed : (n : ℤ) (text : List ℕ) (p : IsPrinted n text) → p.reads_back.numeral.sign ≡ sign_of n

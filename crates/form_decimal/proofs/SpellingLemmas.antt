@@ -1,10 +1,13 @@
 -- What is read at the front of a text is the longest numeral there.
-use Rattle.std.proofs.Common.{◌≡◌, ℕ, ◌+◌, ◌<◌, ◌≤◌, ◌++◌, Bool, true, false, ◌||◌, cond, List, [], ◌∷◌, suc, length, take, drop, Option, Some, None, is_some, refl, ap, sym, subst, ◌∙◌, arith, eqb, ltb, append-nil, append_assoc, inl, inr, ◌⊎◌, length-append}
+use Rattle.std.proofs.Common.{◌≡◌, ℕ, ◌+◌, ◌-◌, ◌<◌, ◌≤◌, ◌++◌, Bool, true, false, ◌||◌, cond, List, [], ◌∷◌, suc, length, take, drop, Option, Some, None, is_some, refl, ap, sym, subst, ◌∙◌, arith, eqb, ltb, append-nil, append_assoc, inl, inr, ◌⊎◌, length-append}
 use Rattle.std.specs.Char.{digit_value, is_ascii_digit}
 use Rattle.std.specs.Str.Parse.{AllDigits}
 use Rattle.std.proofs.lemmas.Bool.{eqb-true, ltb-true, lt-ltb, and_parts}
 use Rattle.std.proofs.lemmas.Bool.Decides.{nat_tests}
 use Rattle.std.proofs.lemmas.List.{take-append-drop, take_at, drop_at, length-take-le}
+use Rattle.std.proofs.lemmas.Option.{same_Some}
+use Rattle.form_decimal.specs.declared.spelling.Sign.{Sign}
+use Rattle.form_decimal.specs.declared.spelling.Sign.TheVariants.{Plus, Minus}
 use Rattle.form_decimal.specs.Numeral.{Numeral, Exponent, numeral_text, exponent_text, mark_text, sign_text, point_text, places, AreDigits, IsExponent, IsLenientForm, IsLongest}
 use Rattle.form_decimal.specs.Spelling.{begins, digit_len, digits_front, behind_digits, sign_at, behind_sign, has_point, point_at, behind_point, has_exponent, exponent_at, behind_exponent, whole_some, fraction_front, tail_front, has_digit, made, behind_made, numeral_front}
 
@@ -13,17 +16,13 @@ pub some_if : {A : Type 0} (b : Bool) (o : Option A) (y : A) → cond b o None �
 some_if true o y h = (refl, h)
 some_if false o y h = cc
 
--- two values that are there
-pub some_same : {A : Type 0} (x y : A) → Some x ≡ Some y → x ≡ y
-some_same x y h = cc
-
--- the test of a digit, where it holds
-pub digit_true : (c : ℕ) → is_ascii_digit c ≡ true → digit_value c < 10
+-- a byte that is a digit
+digit_true : (c : ℕ) → is_ascii_digit c ≡ true → digit_value c < 10
 digit_true c h = grind (arith, nat_tests)
 
--- and back
-pub true_digit : (c : ℕ) → digit_value c < 10 → (is_ascii_digit c ≡ true) × (48 ≤ c) × (c < 58)
-true_digit c h = (grind (arith, nat_tests), grind (arith, nat_tests), grind (arith, nat_tests))
+-- a byte that has the value of one
+pub true_digit : (c : ℕ) → digit_value c < 10 → (is_ascii_digit c ≡ true) × (digit_value c ≡ c - 48) × (48 ≤ c) × (c < 58)
+true_digit c h = (grind (arith, nat_tests), grind (arith, nat_tests), grind (arith, nat_tests), grind (arith, nat_tests))
 
 -- ---- the digits at the front
 
@@ -63,7 +62,7 @@ begins_is b (x ∷ xs) h = ap (λ y. y ∷ xs) (eqb-true x b h)
 pub sign_found : (text : List ℕ) → text ≡ sign_text (sign_at text) ++ behind_sign text
 sign_found text = go (begins 45 text) refl (begins 43 text) refl
   where
-    go : (m : Bool) → begins 45 text ≡ m → (p : Bool) → begins 43 text ≡ p → text ≡ sign_text (cond m (Some true) (cond p (Some false) None)) ++ cond (is_some (cond m (Some true) (cond p (Some false) None))) (drop 1 text) text
+    go : (m : Bool) → begins 45 text ≡ m → (p : Bool) → begins 43 text ≡ p → text ≡ sign_text (cond m (Some Minus) (cond p (Some Plus) None)) ++ cond (is_some (cond m (Some Minus) (cond p (Some Plus) None))) (drop 1 text) text
     go true e p f = begins_is 45 text e
     go false e true f = begins_is 43 text f
     go false e false f = refl
@@ -148,17 +147,17 @@ no_sign_front (d ∷ ds) r p h =
     rw (a, b) refl
 
 -- the exponent in front of more text: its digits may go on there
-signed_least : (sign : Option Bool) (ds r : List ℕ) → AreDigits ds → 0 < length ds → (sign_at (sign_text sign ++ (ds ++ r)) ≡ sign) × (behind_sign (sign_text sign ++ (ds ++ r)) ≡ ds ++ r)
+signed_least : (sign : Option Sign) (ds r : List ℕ) → AreDigits ds → 0 < length ds → (sign_at (sign_text sign ++ (ds ++ r)) ≡ sign) × (behind_sign (sign_text sign ++ (ds ++ r)) ≡ ds ++ r)
 signed_least None ds r p h = (no_sign_front ds r p h, rw (no_sign_front ds r p h) refl)
-signed_least (Some true) ds r p h = (refl, refl)
-signed_least (Some false) ds r p h = (refl, refl)
+signed_least (Some Minus) ds r p h = (refl, refl)
+signed_least (Some Plus) ds r p h = (refl, refl)
 
 -- an exponent of these parts
-abbrev exponent_make : Bool → Option Bool → List ℕ → Option Exponent
+abbrev exponent_make : Bool → Option Sign → List ℕ → Option Exponent
 exponent_make capital sign ds = Some (record { capital = capital; sign = sign; digits = ds })
 
 -- an exponent in front is read with all digits that follow
-marked_least : (capital : Bool) (sign : Option Bool) (ds r : List ℕ) → AreDigits ds → 0 < length ds → exponent_at (exponent_text (exponent_make capital sign ds) ++ r) ≡ exponent_make capital sign (digits_front (ds ++ r))
+marked_least : (capital : Bool) (sign : Option Sign) (ds r : List ℕ) → AreDigits ds → 0 < length ds → exponent_at (exponent_text (exponent_make capital sign ds) ++ r) ≡ exponent_make capital sign (digits_front (ds ++ r))
 marked_least capital sign ds r p h =
     ap exponent_at (sym (regroup (mark_text capital) (sign_text sign) ds r)) ∙ go capital
   where
@@ -173,7 +172,7 @@ marked_least capital sign ds r p h =
     go false = rw (s.1, s.0, some) refl
 
 -- how long an exponent is
-length_power : (capital : Bool) (sign : Option Bool) (ds : List ℕ) → length (exponent_text (exponent_make capital sign ds)) ≡ 1 + length (sign_text sign) + length ds
+length_power : (capital : Bool) (sign : Option Sign) (ds : List ℕ) → length (exponent_text (exponent_make capital sign ds)) ≡ 1 + length (sign_text sign) + length ds
 length_power true sign ds = omega (arith, length-append (sign_text sign) ds)
 length_power false sign ds = omega (arith, length-append (sign_text sign) ds)
 
@@ -230,10 +229,10 @@ unsigned_begin q r h = go q.whole q.fraction h.whole h.some_digit
     go [] (Some ds) p n = refl
 
 -- exactly the sign that stands in front is read
-sign_least : (s : Option Bool) (u : List ℕ) → sign_at u ≡ None → (sign_at (sign_text s ++ u) ≡ s) × (behind_sign (sign_text s ++ u) ≡ u)
+sign_least : (s : Option Sign) (u : List ℕ) → sign_at u ≡ None → (sign_at (sign_text s ++ u) ≡ s) × (behind_sign (sign_text s ++ u) ≡ u)
 sign_least None u h = (h, rw h refl)
-sign_least (Some true) u h = (refl, refl)
-sign_least (Some false) u h = (refl, refl)
+sign_least (Some Minus) u h = (refl, refl)
+sign_least (Some Plus) u h = (refl, refl)
 
 -- at least these parts are read behind the sign
 record AtLeast (w : List ℕ) (f : Option (List ℕ)) (e : Option Exponent) (u : List ℕ) : Type 0 where
@@ -271,7 +270,7 @@ whole_least w None (Some e) r pw pf pe n = exact_least w None (Some e) r pw pf p
 whole_least w (Some ds) e r pw pf pe n = exact_least w (Some ds) e r pw pf pe n refl
 
 -- how long a numeral is
-text_length : (s : Option Bool) (w : List ℕ) (f : Option (List ℕ)) (e : Option Exponent) → length (sign_text s ++ (w ++ (point_text f ++ exponent_text e))) ≡ length (sign_text s) + (length w + Length f e)
+text_length : (s : Option Sign) (w : List ℕ) (f : Option (List ℕ)) (e : Option Exponent) → length (sign_text s ++ (w ++ (point_text f ++ exponent_text e))) ≡ length (sign_text s) + (length w + Length f e)
 text_length s w f e = omega (arith, length-append (sign_text s) (w ++ (point_text f ++ exponent_text e)), length-append w (point_text f ++ exponent_text e), length-append (point_text f) (exponent_text e))
 
 -- a numeral in front of a rest, piece by piece
@@ -346,11 +345,11 @@ no_digit_behind None e = (exponent_begin e).0
 no_digit_behind (Some ds) e = refl
 
 -- a numeral of these parts
-abbrev numeral_make : Option Bool → List ℕ → Option (List ℕ) → Option Exponent → Numeral
+abbrev numeral_make : Option Sign → List ℕ → Option (List ℕ) → Option Exponent → Numeral
 numeral_make s w f e = record { sign = s; whole = w; fraction = f; exponent = e }
 
 -- the parts behind the sign are read again
-whole_again : (w : List ℕ) (f : Option (List ℕ)) (e : Option Exponent) → AreDigits w → AreDigits (places f) → 0 < length w + length (places f) → IsExponent e → (s : Option Bool) → numeral_make s (digits_front (w ++ (point_text f ++ exponent_text e))) (fraction_front (w ++ (point_text f ++ exponent_text e))) (exponent_at (tail_front (w ++ (point_text f ++ exponent_text e)))) ≡ numeral_make s w f e
+whole_again : (w : List ℕ) (f : Option (List ℕ)) (e : Option Exponent) → AreDigits w → AreDigits (places f) → 0 < length w + length (places f) → IsExponent e → (s : Option Sign) → numeral_make s (digits_front (w ++ (point_text f ++ exponent_text e))) (fraction_front (w ++ (point_text f ++ exponent_text e))) (exponent_at (tail_front (w ++ (point_text f ++ exponent_text e)))) ≡ numeral_make s w f e
 whole_again w f e pw pf n pe s =
     let rest = point_text f ++ exponent_text e in
     let u = w ++ rest in
@@ -393,7 +392,7 @@ longest_once text p q h k =
 pub front_found : (text : List ℕ) (x : Numeral × List ℕ) → numeral_front text ≡ Some x → IsLongest x.0 text × (text ≡ numeral_text x.0 ++ x.1)
 front_found text x h =
     let t = some_if (has_digit (behind_sign text)) (Some (made text, behind_made text)) x h in
-    subst (λ y. IsLongest y.0 text × (text ≡ numeral_text y.0 ++ y.1)) (some_same (made text, behind_made text) x t.1) (front_longest text t.0)
+    subst (λ y. IsLongest y.0 text × (text ≡ numeral_text y.0 ++ y.1)) (same_Some (made text, behind_made text) x t.1) (front_longest text t.0)
 
 -- and the longest numeral in front is read
 pub front_again : (text : List ℕ) (q : Numeral) → IsLongest q text → numeral_front text ≡ Some (q, behind_made text)

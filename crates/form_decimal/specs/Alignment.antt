@@ -21,4 +21,5 @@ distance a b = unsigned_abs (a -ℤ b)
 -- for which the element doesn't suffer from a step mismatch, up at a tie).
 pub record IsNearestAligned (n base step low : ℤ) (high : Option ℤ) (c : ℤ) : Type 0 where
   pub candidate : IsCandidate base step low high c
-  pub nearest : (d : ℤ) → IsCandidate base step low high d → (distance n c < distance n d) ⊎ ((distance n c ≡ distance n d) × (d ≤ℤ c))
+  pub nearest : (d : ℤ) → IsCandidate base step low high d
+      → (distance n c < distance n d) ⊎ ((distance n c ≡ distance n d) × (d ≤ℤ c))

@@ -3,10 +3,6 @@ use Rattle.std.specs.Prelude.{ℕ, zero, suc, ◌+◌, ◌*◌, ◌^◌, ◌&&�
 use Rattle.std.specs.Int.{int_rem_euclid}
 use Rattle.form_decimal.specs.Alignment.{distance}
 
--- neither is below the other
-abbrev pub is_same : ℤ → ℤ → Bool
-is_same a b = not (int_lt a b) && not (int_lt b a)
-
 -- no rest is left (`aligned_found`, `aligned_again` of proofs/Laws: exactly where IsAligned)
 unfoldable pub is_aligned : ℤ → ℤ → ℤ → Bool
 is_aligned n base step = unsigned_abs (int_rem_euclid (n -ℤ base) step) == 0
@@ -16,7 +12,9 @@ is_up_to None c = true
 is_up_to (Some h) c = not (int_lt h c)
 
 abbrev pub is_candidate : ℤ → ℤ → ℤ → Option ℤ → ℤ → Bool
-is_candidate base step low high c = is_aligned c base step && (not (int_lt c low) && (is_up_to high c && nat_le (unsigned_abs c) (10 ^ 29)))
+is_candidate base step low high c =
+    is_aligned c base step
+    && (not (int_lt c low) && (is_up_to high c && nat_le (unsigned_abs c) (10 ^ 29)))
 
 -- all numbers of that magnitude, from the least one
 abbrev pub nth : ℕ → ℤ
@@ -30,7 +28,9 @@ nearer_of n (Some b) c = if nat_le (distance n c) (distance n b) then c else b
 -- the nearest one of the first k that pass the test
 unfoldable pub nearest_among : ℤ → (ℤ → Bool) → ℕ → Option ℤ
 nearest_among n test zero = None
-nearest_among n test (suc k) = if test (nth k) then Some (nearer_of n (nearest_among n test k) (nth k)) else nearest_among n test k
+nearest_among n test (suc k) =
+    if test (nth k) then Some (nearer_of n (nearest_among n test k) (nth k))
+    else nearest_among n test k
 
 -- the nearest candidate, or none (`nearest_is` of proofs/Laws: exactly IsNearestAligned)
 unfoldable pub nearest_of : ℤ → ℤ → ℤ → ℤ → Option ℤ → Option ℤ

@@ -28,4 +28,6 @@ pub record IsUpper (n base step low top c : ℤ) : Type 0 where
 
 -- the nearer one of two, and the upper one at a tie
 abbrev pub IsNearer : ℤ → ℤ → ℤ → ℤ → Type 0
-IsNearer n below above c = ((c ≡ below) × ((n -ℤ below) <ℤ (above -ℤ n))) ⊎ ((c ≡ above) × ((above -ℤ n) ≤ℤ (n -ℤ below)))
+IsNearer n below above c =
+    ((c ≡ below) × ((n -ℤ below) <ℤ (above -ℤ n)))
+    ⊎ ((c ≡ above) × ((above -ℤ n) ≤ℤ (n -ℤ below)))

@@ -8,4 +8,9 @@ abbrev pub plain_power : Power → Exponent
 plain_power p = record { capital = p.capital; sign = p.sign; digits = p.digits.now }
 
 abbrev pub plain : Spelled → Numeral
-plain s = record { sign = s.sign; whole = s.whole.now; fraction = option_map (λ d. d.now) s.fraction; exponent = option_map plain_power s.exponent }
+plain s = record {
+  sign = s.sign;
+  whole = s.whole.now;
+  fraction = option_map (λ d. d.now) s.fraction;
+  exponent = option_map plain_power s.exponent;
+}

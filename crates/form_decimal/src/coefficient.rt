@@ -25,6 +25,9 @@ fn push(t: Trimmed, digit: u8) -> Option<Trimmed>
     ensures none { IfNone result (IsBig (t.value * 10 ^ t.zeros * 10 + digit_value digit)) }
 {
     if digit == b'0' {
+        if t.value == 0 {
+            return Some(t);
+        }
         return Some(Trimmed {
             value: t.value,
             zeros: t.zeros + 1,

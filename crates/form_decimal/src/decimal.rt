@@ -1,12 +1,11 @@
 //! The numbers themselves.
-ghost use Rattle.std.specs.Prelude.{◌≡◌, ◌^◌, ◌≤◌, ◌↔◌, pos, neg_ℤ, unsigned_abs, IfSome, IsSome, int_lt};
+ghost use Rattle.std.specs.Prelude.{◌≡◌, ◌^◌, ◌≤◌, ◌↔◌, pos, neg_ℤ, unsigned_abs, IfSome, IsSome};
 ghost use Rattle.form_decimal.specs.Numeral.{signed};
-ghost use Rattle.form_decimal.specs.Nearest.{is_same};
 
 use std::marker::Model;
 
 /// An exact number: so many units of 10^-12, at most 10^29 of them, which is 10^17 in magnitude.
-#[derive(Clone, Copy, Debug)]
+#[derive(Clone, Copy, Debug, PartialEq, Eq, PartialOrd, Ord)]
 pub struct Decimal {
     pub(crate) units: i128,
 }
@@ -31,6 +30,7 @@ impl Decimal {
     pub fn of_units(units: i128) -> Option<Decimal>
         ensures some { IsSome result ↔ (unsigned_abs units ≤ 10 ^ 29) }
         ensures value { IfSome result (λ d. d ≡ units) }
+        ensures fits { IfSome result (λ d. unsigned_abs d ≤ 10 ^ 29) }
     {
         if units < -LIMIT || units > LIMIT {
             return None;
@@ -62,7 +62,8 @@ impl Decimal {
 
     /// The number with the other sign.
     pub fn negated(self) -> Decimal
-        ensures { result ≡ neg_ℤ self }
+        ensures value { result ≡ neg_ℤ self }
+        ensures fits { unsigned_abs result ≤ 10 ^ 29 }
     {
         Decimal { units: -self.units }
     }
@@ -79,20 +80,4 @@ impl Decimal {
             Decimal { units }
         }
     }
-}
-
-/// Whether the first is below the second.
-pub fn is_below(a: Decimal, b: Decimal) -> bool
-    ensures value { result ≡ int_lt a b }
-    ensures left { unsigned_abs a ≤ 10 ^ 29 }
-    ensures right { unsigned_abs b ≤ 10 ^ 29 }
-{
-    a.units() < b.units()
-}
-
-/// Whether the two are one number.
-pub fn is_same(a: Decimal, b: Decimal) -> bool
-    ensures { result ≡ is_same a b }
-{
-    !is_below(a, b) && !is_below(b, a)
 }

@@ -23,7 +23,7 @@ mod scaling;
 mod spelling;
 
 pub use crate::alignment::aligned;
-pub use crate::decimal::{Decimal, is_below, is_same};
+pub use crate::decimal::Decimal;
 pub use crate::halving::half_between;
 pub use crate::nearest::nearest_aligned;
 pub use crate::printing::print;

@@ -5,7 +5,7 @@ ghost use Rattle.form_decimal.specs.Alignment.{IsAligned, IsCandidate, IsNearest
 ghost use Rattle.form_decimal.specs.Neighbours.{IsGreatest, IsLeast, IsLower, IsUpper, IsNearer};
 
 use crate::alignment::at_or_below;
-use crate::decimal::{Decimal, is_below};
+use crate::decimal::Decimal;
 use std::marker::Model;
 
 // A step; a type of its own is seen as its number, without a cast at each call.
@@ -37,6 +37,7 @@ fn greatest_to(limit: Decimal, base: Decimal, step: Step) -> Option<Decimal>
     requires least { pos 1 ≤ℤ step }
     requires greatest { step ≤ℤ pos (6048 * 10 ^ 34) }
     ensures some { IfSome result (IsGreatest base step limit) }
+    ensures fits { IfSome result (λ d. unsigned_abs d ≤ 10 ^ 29) }
     ensures none { IfNone result
         ((d : ℤ) → IsAligned d base step → unsigned_abs d ≤ 10 ^ 29 → d ≤ℤ limit → ⊥) }
 {
@@ -48,6 +49,7 @@ fn least_from(limit: Decimal, base: Decimal, step: Step) -> Option<Decimal>
     requires least { pos 1 ≤ℤ step }
     requires greatest { step ≤ℤ pos (6048 * 10 ^ 34) }
     ensures some { IfSome result (IsLeast base step limit) }
+    ensures fits { IfSome result (λ d. unsigned_abs d ≤ 10 ^ 29) }
     ensures none { IfNone result
         ((d : ℤ) → IsAligned d base step → unsigned_abs d ≤ 10 ^ 29 → limit ≤ℤ d → ⊥) }
 {
@@ -63,7 +65,7 @@ fn smaller(a: Decimal, b: Decimal) -> Decimal
     ensures right { result ≤ℤ b }
     ensures greatest { (d : ℤ) → d ≤ℤ a → d ≤ℤ b → d ≤ℤ result }
 {
-    if is_below(a, b) { a } else { b }
+    if a < b { a } else { b }
 }
 
 // The greater one.
@@ -72,7 +74,7 @@ fn greater(a: Decimal, b: Decimal) -> Decimal
     ensures right { b ≤ℤ result }
     ensures least { (d : ℤ) → a ≤ℤ d → b ≤ℤ d → result ≤ℤ d }
 {
-    if is_below(a, b) { b } else { a }
+    if a < b { b } else { a }
 }
 
 // The greatest candidate up to the number.
@@ -86,7 +88,7 @@ fn lower(n: Decimal, base: Decimal, step: Step, low: Decimal, top: Decimal) -> O
     let Some(found) = greatest_to(smaller(n, top), base, step) else {
         return None;
     };
-    if is_below(found, low) {
+    if found < low {
         return None;
     }
     Some(found)
@@ -103,7 +105,7 @@ fn upper(n: Decimal, base: Decimal, step: Step, low: Decimal, top: Decimal) -> O
     let Some(found) = least_from(greater(n, low), base, step) else {
         return None;
     };
-    if is_below(top, found) {
+    if top < found {
         return None;
     }
     Some(found)

@@ -1,8 +1,8 @@
 //! Printing a number.
-ghost use Rattle.std.specs.Prelude.{ℕ, List, Some, unsigned_abs, ◌≡◌, ◌*◌, ◌≤◌, ◌<◌, ◌^◌, ◌++◌, ◌+◌, ◌/◌, ◌∷◌, IfOk, string_bytes};
+ghost use Rattle.std.specs.Prelude.{ℕ, List, Some, unsigned_abs, ◌≡◌, ◌*◌, ◌≤◌, ◌<◌, ◌^◌, ◌++◌, ◌+◌, ◌/◌, IfOk, string_bytes};
 ghost use Rattle.form_decimal.specs.Numeral.{point_text};
 ghost use Rattle.form_decimal.specs.Reading.{valid_number};
-ghost use Rattle.form_decimal.specs.Printed.{IsPrinted, fraction_digits, fraction_of, magnitude_text, printed};
+ghost use Rattle.form_decimal.specs.Printed.{IsPrinted, fraction_digits, fraction_of, minus_text, whole_text, printed};
 
 use crate::decimal::Decimal;
 use std::alloc::{AllocError, Global};
@@ -47,35 +47,27 @@ fn with_fraction(text: String, fraction: u128) -> Result<String, AllocError>
     with_digits(out, fraction)
 }
 
-fn positive(alloc: Global, magnitude: u128) -> Result<String, AllocError>
-    requires { magnitude ≤ 10 ^ 29 }
-    ensures { IfOk result (λ s. string_bytes s ≡ magnitude_text magnitude) }
+// `-` in front of a number below 0.
+fn minus(n: Decimal) -> &'static str
+    ensures { result.now ≡ minus_text n }
 {
-    let whole = magnitude / ONE;
-    let text = format!(in alloc; "{whole}")?;
-    with_fraction(text, magnitude % ONE)
+    if n.units() < 0 { "-" } else { "" }
 }
 
-fn negative(alloc: Global, magnitude: u128) -> Result<String, AllocError>
-    requires { magnitude ≤ 10 ^ 29 }
-    ensures { IfOk result (λ s. string_bytes s ≡ 45 ∷ magnitude_text magnitude) }
+fn whole_text(alloc: Global, n: Decimal) -> Result<String, AllocError>
+    ensures { IfOk result (λ s. string_bytes s ≡ whole_text n) }
 {
-    let whole = magnitude / ONE;
-    let text = format!(in alloc; "-{whole}")?;
-    with_fraction(text, magnitude % ONE)
+    let minus = minus(n);
+    let whole = n.units().unsigned_abs() / ONE;
+    format!(in alloc; "{minus}{whole}")
 }
 
 fn printed(alloc: Global, n: Decimal) -> Result<String, AllocError>
     ensures text { IfOk result (λ s. string_bytes s ≡ printed n) }
     ensures fits { unsigned_abs n ≤ 10 ^ 29 }
 {
-    let units = n.units();
-    let magnitude = units.unsigned_abs();
-    if units < 0 {
-        negative(alloc, magnitude)
-    } else {
-        positive(alloc, magnitude)
-    }
+    let text = whole_text(alloc, n)?;
+    with_fraction(text, n.units().unsigned_abs() % ONE)
 }
 
 /// The printed form of a number: no exponent, no zero in front that is not needed, none at the

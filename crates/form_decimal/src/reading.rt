@@ -1,12 +1,12 @@
 //! Reading a number from a text.
 ghost use Rattle.std.specs.Prelude.{◌≡◌, ℤ, IfSome, Some};
-ghost use Rattle.form_decimal.specs.Numeral.{IsValidNumber, IsLenientNumber, IsLenientForm};
+ghost use Rattle.form_decimal.specs.Numeral.{behind_whitespace, IsValidNumber, IsLenientNumber, IsLenientForm};
 ghost use Rattle.form_decimal.specs.Plain.{plain};
 ghost use Rattle.form_decimal.specs.Reading.{meant, valid_number, lenient_number};
 
 use crate::decimal::Decimal;
 use crate::scaling::magnitude;
-use crate::spelling::{Spelled, behind_spaces, is_minus, numeral_of};
+use crate::spelling::{Spelled, is_minus, numeral_of};
 
 // The number that a numeral means.
 fn number(numeral: &Spelled<'_>) -> Option<Decimal>
@@ -35,11 +35,18 @@ fn alone(text: &str) -> Option<Decimal>
     number(&numeral)
 }
 
+// The text behind its ASCII whitespace.
+fn behind_whitespace(text: &str) -> &[u8]
+    ensures { result.now ≡ behind_whitespace text.now }
+{
+    text.trim_ascii_start().as_bytes()
+}
+
 #[tactic(auto, unfolding(crate::specs::Reading::lenient_number))]
 fn front(text: &str) -> Option<Decimal>
     ensures { result ≡ lenient_number text.now }
 {
-    let Some((numeral, _)) = numeral_of(behind_spaces(text.as_bytes())) else {
+    let Some((numeral, _)) = numeral_of(behind_whitespace(text)) else {
         return None;
     };
     number(&numeral)

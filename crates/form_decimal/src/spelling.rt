@@ -1,21 +1,28 @@
 //! The longest numeral at the front of a text.
-ghost use Rattle.std.specs.Prelude.{◌≡◌, ◌&&◌, option_map, length, drop, ◌≤◌, ◌+◌, nat_lt};
-ghost use Rattle.form_decimal.specs.Numeral.{is_minus, places, space_len};
+ghost use Rattle.std.specs.Prelude.{◌≡◌, ◌&&◌, option_map, length, ◌≤◌, ◌+◌, nat_lt};
+ghost use Rattle.form_decimal.specs.Numeral.{is_minus, places};
 ghost use Rattle.form_decimal.specs.Plain.{plain, plain_power};
 ghost use Rattle.form_decimal.specs.Spelling.{begins, digit_len, sign_at, behind_sign, has_point, point_at, behind_point, exponent_at, behind_exponent, numeral_front, is_plus, is_bare, is_valid};
 
-/// An exponent: `e` or `E`, a sign, which is true for `-`, and digits.
+/// A sign that is written.
+#[derive(Clone, Copy)]
+pub enum Sign {
+    Plus,
+    Minus,
+}
+
+/// An exponent: `e` or `E`, a sign or none, and digits.
 #[derive(Clone, Copy)]
 pub struct Power<'a> {
     pub capital: bool,
-    pub sign: Option<bool>,
+    pub sign: Option<Sign>,
     pub digits: &'a [u8],
 }
 
 /// A numeral: a sign, the digits before a point and behind it, and an exponent.
 #[derive(Clone, Copy)]
 pub struct Spelled<'a> {
-    pub sign: Option<bool>,
+    pub sign: Option<Sign>,
     pub whole: &'a [u8],
     pub fraction: Option<&'a [u8]>,
     pub exponent: Option<Power<'a>>,
@@ -30,11 +37,11 @@ impl Spelled<'_> {
     }
 }
 
-fn is_plus(sign: Option<bool>) -> bool
+fn is_plus(sign: Option<Sign>) -> bool
     ensures { result ≡ is_plus sign }
 {
     match sign {
-        Some(false) => true,
+        Some(Sign::Plus) => true,
         _ => false,
     }
 }
@@ -49,11 +56,11 @@ fn is_bare(fraction: Option<&[u8]>) -> bool
 }
 
 /// Whether the sign is `-`.
-pub fn is_minus(sign: Option<bool>) -> bool
+pub fn is_minus(sign: Option<Sign>) -> bool
     ensures { result ≡ is_minus sign }
 {
     match sign {
-        Some(true) => true,
+        Some(Sign::Minus) => true,
         _ => false,
     }
 }
@@ -77,26 +84,6 @@ fn begins(text: &[u8], byte: u8) -> bool
     }
 }
 
-// How many characters of ASCII whitespace stand at the front.
-fn space_count(text: &[u8]) -> usize
-    ensures value { result ≡ space_len text.now }
-    ensures bound { result ≤ length text.now }
-{
-    for (i, b) in text.iter().enumerate() {
-        if !b.is_ascii_whitespace() {
-            return i;
-        }
-    }
-    text.len()
-}
-
-/// The text behind its ASCII whitespace.
-pub fn behind_spaces(text: &[u8]) -> &[u8]
-    ensures { result.now ≡ drop (space_len text.now) text.now }
-{
-    &text[space_count(text)..]
-}
-
 // How many digits stand at the front.
 fn digit_count(text: &[u8]) -> usize
     ensures value { result ≡ digit_len text.now }
@@ -110,13 +97,13 @@ fn digit_count(text: &[u8]) -> usize
     text.len()
 }
 
-fn sign_of(text: &[u8]) -> Option<bool>
+fn sign_of(text: &[u8]) -> Option<Sign>
     ensures { result ≡ sign_at text.now }
 {
     if begins(text, b'-') {
-        Some(true)
+        Some(Sign::Minus)
     } else if begins(text, b'+') {
-        Some(false)
+        Some(Sign::Plus)
     } else {
         None
     }
@@ -134,10 +121,11 @@ fn behind_sign(text: &[u8]) -> &[u8]
 fn has_point(some: bool, text: &[u8]) -> bool
     ensures { result ≡ has_point some text.now }
 {
-    if !begins(text, b'.') {
-        return false;
+    match text {
+        [b'.', next, ..] => some || next.is_ascii_digit(),
+        [b'.'] => some,
+        _ => false,
     }
-    some || digit_count(&text[1..]) > 0
 }
 
 // The digits behind a point, where it counts, and what stands behind them.

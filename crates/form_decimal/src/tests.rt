@@ -1,7 +1,5 @@
 //! Worked rows: what each call answers.
-use crate::{
-    Decimal, aligned, half_between, is_below, nearest_aligned, print, read_lenient, read_valid,
-};
+use crate::{Decimal, aligned, half_between, nearest_aligned, print, read_lenient, read_valid};
 use std::alloc::{AllocError, Global};
 
 const ONE: i128 = 1_000_000_000_000;
@@ -102,9 +100,10 @@ fn long(
 }
 
 // Of each row the number that its text means.
-const LONG: [(&str, char, u32, &str, Option<i128>); 8] = [
+const LONG: [(&str, char, u32, &str, Option<i128>); 9] = [
     ("1", '0', 100_000, "e-100000", Some(ONE)),
     ("0.", '0', 99_999, "25e100000", Some(2 * ONE + ONE / 2)),
+    (".", '0', 99_999, "25e100000", Some(2 * ONE + ONE / 2)),
     ("-", '0', 100_000, "7", Some(-7 * ONE)),
     ("3.5", '0', 100_000, "", Some(3 * ONE + ONE / 2)),
     ("1", '3', 100_000, "e-100000", None),
@@ -211,7 +210,7 @@ fn finds_the_nearest(rt: HostRuntime) {
 fn half(low: i128, high: i128) -> Option<i128> {
     let low = decimal(low);
     let high = decimal(high);
-    if is_below(high, low) {
+    if high < low {
         return None;
     }
     Some(half_between(low, high).units())

@@ -1,6 +1,6 @@
--- The limits that attributes give are what sanitising asks for, and their numbers are decimals.
+-- The limits that attributes give are what sanitising asks for.
 use Rattle.std.proofs.Common.{◌≡◌, ℕ, Bool, true, false, cond, List, Option, Some, None, IfSome, IsSome, refl, arith, ℤ, pos, negsuc, ◌*ℤ◌, ◌≤ℤ◌, int_lt, codes}
-use Rattle.std.specs.Prelude.{option_and_then, unwrap_or}
+use Rattle.std.specs.Prelude.{option_and_then}
 use Rattle.std.specs.Option.{option_or}
 use Rattle.std.specs.Str.{str_eq_ignore_ascii_case}
 use Rattle.std.proofs.lemmas.Int.{ints}
@@ -8,11 +8,9 @@ use Rattle.form_types.specs.declared.kind.Kind.{Kind}
 use Rattle.form_types.specs.declared.kind.Kind.TheVariants as kinds
 use Rattle.form_types.specs.TypeTable.{scale_of, default_step_of}
 use Rattle.form_decimal.specs.Reading.{lenient_number}
-use Rattle.form_decimal.proofs.Laws.{lenient_bound}
-use Rattle.form_decimal.proofs.ChoiceLemmas.{lt_true}
+use Rattle.form_decimal.proofs.Laws.{lenient_bound, lt_true}
 use Rattle.form_states.specs.Numbers.{IsDecimal, in_units}
-use Rattle.form_states.specs.Limits.{attribute_number, number_in, default_minimum, default_maximum, default_step_base, positive_or, step_by, allowed_value_step, limits_of, IsScale, IsDefaultStep, IsStep, IsLimits, HasDecimals}
-use Rattle.form_states.specs.NumberLaws.{number_bound}
+use Rattle.form_states.specs.Limits.{number_in, positive_or, step_by, allowed_value_step, limits_of, IsScale, IsDefaultStep, IsStep, IsLimits}
 use Rattle.form_states.proofs.StepLemmas.{scaled_step, scale_is, default_step_is}
 
 -- ---- the step
@@ -69,48 +67,7 @@ step_is kind attribute = go (scale_of kind) (default_step_of kind) (scale_is kin
     go (Some s) None f g = tt
     go (Some s) (Some d) f g = step_by_is s d attribute (f s refl) (g d refl)
 
--- ---- the numbers
-
-attribute_bound : (kind : Kind) (text : List ℕ) (n : ℤ) → attribute_number kind text ≡ Some n → IsDecimal n
-attribute_bound kinds.Number text n h = lenient_bound text n h
-attribute_bound kinds.Range text n h = lenient_bound text n h
-attribute_bound kind text n h = number_bound kind text n h
-
-number_fits : (kind : Kind) (attribute : Option (List ℕ)) → IfSome (number_in kind attribute) IsDecimal
-number_fits kind None = tt
-number_fits kind (Some text) = go (attribute_number kind text) refl
-  where
-    go : (o : Option ℤ) → attribute_number kind text ≡ o → IfSome o IsDecimal
-    go None e = tt
-    go (Some n) e = attribute_bound kind text n e
-
-or_fits : (o p : Option ℤ) → IfSome o IsDecimal → IfSome p IsDecimal → IfSome (option_or o p) IsDecimal
-or_fits None p h k = k
-or_fits (Some n) p h k = h
-
-unwrap_fits : (o : Option ℤ) (d : ℤ) → IfSome o IsDecimal → IsDecimal d → IsDecimal (unwrap_or o d)
-unwrap_fits None d h k = k
-unwrap_fits (Some n) d h k = h
-
-minimum_fits : (kind : Kind) → IfSome (default_minimum kind) IsDecimal
-minimum_fits kinds.Range = omega arith
-minimum_fits kind = tt
-
-maximum_fits : (kind : Kind) → IfSome (default_maximum kind) IsDecimal
-maximum_fits kinds.Range = omega arith
-maximum_fits kind = tt
-
-base_fits : (kind : Kind) → IsDecimal (default_step_base kind)
-base_fits kinds.Week = omega arith
-base_fits kind = omega arith
-
-pub limits_decimals : (kind : Kind) (min max step value : Option (List ℕ)) → HasDecimals (limits_of kind min max step value)
-unfolding limits_of
-limits_decimals kind min max step value = record {
-  min = or_fits (number_in kind min) (default_minimum kind) (number_fits kind min) (minimum_fits kind);
-  max = or_fits (number_in kind max) (default_maximum kind) (number_fits kind max) (maximum_fits kind);
-  base = unwrap_fits (option_or (number_in kind min) (number_in kind value)) (default_step_base kind) (or_fits (number_in kind min) (number_in kind value) (number_fits kind min) (number_fits kind value)) (base_fits kind);
-}
+-- ---- the ends
 
 or_some : (o : Option ℤ) (n : ℤ) → IsSome (option_or o (Some n))
 or_some None n = refl

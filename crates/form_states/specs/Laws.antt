@@ -1,5 +1,5 @@
 -- The laws of the states: sanitising is idempotent, and is the rule of the state.
-use Rattle.std.proofs.Common.{◌≡◌, ℕ, ◌&&◌, Bool, true, false, cond, List, [], ◌∷◌, map, length, Option, Some, None, refl, ap, ◌∙◌, arith, eqb, ℤ, codes}
+use Rattle.std.proofs.Common.{◌≡◌, inl, inr, ℕ, ◌&&◌, Bool, true, false, cond, List, [], ◌∷◌, map, length, Option, Some, None, refl, ap, sym, subst, ◌∙◌, arith, eqb, ℤ, codes}
 use Rattle.std.specs.Prelude.{option_and_then, unwrap_or}
 use Rattle.std.proofs.lemmas.Bool.{and_parts, eqb-true}
 use Rattle.std.proofs.lemmas.Bool.Decides.{nat_tests}
@@ -10,14 +10,16 @@ use Rattle.form_text.specs.LineEnds.{without_newlines}
 use Rattle.form_text.specs.Whitespace.{stripped}
 use Rattle.form_text.proofs.Laws.{without_newlines_again, stripped_again, stripped_keeps_none}
 use Rattle.form_calendar.specs.LocalDateTime.{local_number, local_text}
+use Rattle.form_calendar.specs.Shortest.{IsShortestLocal}
 use Rattle.form_types.specs.declared.kind.Kind.{Kind}
 use Rattle.form_types.specs.declared.kind.Kind.TheVariants as kinds
 use Rattle.form_states.specs.declared.limits.Limits.{Limits}
-use Rattle.form_calendar.proofs.LocalTexts.{local_text_back, local_number_text}
-use Rattle.form_states.specs.Numbers.{number_of}
+use Rattle.form_calendar.proofs.Laws.{local_found as valid_local, local_again as local_read, local_text_back, local_number_text, local_text_shortest}
+use Rattle.form_states.specs.NumberLaws.{number_found, number_again}
+use Rattle.form_states.specs.States.{HasNumber, number_of, IsSanitised, sanitised}
 use Rattle.form_states.specs.Limits.{IsLimits, HasDecimals}
-use Rattle.form_states.specs.Sanitised.{kept_if_number, is_simple_color, color_sanitised, local_sanitised, IsSanitised, sanitised}
-use Rattle.form_states.specs.RangeLaws.{range_again, range_is}
+use Rattle.form_states.specs.Sanitised.{kept_if_number, is_simple_color, color_sanitised, local_sanitised, IsKeptIfValid, IsNormalised}
+use Rattle.form_states.specs.RangeLaws.{range_is}
 
 -- newlines and then whitespace at the ends: nothing is left to take away
 pub url_again : (t : List ℕ) → stripped (without_newlines (stripped (without_newlines t))) ≡ stripped (without_newlines t)
@@ -80,24 +82,31 @@ color_again t = go (is_simple_color t) refl
     go true e = rw (color_lower t e) (lower_again t)
     go false e = refl
 
--- Sanitising twice gives what sanitising once gives.
-pub sanitised_again : (kind : Kind) (l : Limits) (t : List ℕ) → HasDecimals l → sanitised kind l (sanitised kind l t) ≡ sanitised kind l t
-sanitised_again kinds.Text l t d = without_newlines_again t
-sanitised_again kinds.Search l t d = without_newlines_again t
-sanitised_again kinds.Tel l t d = without_newlines_again t
-sanitised_again kinds.Password l t d = without_newlines_again t
-sanitised_again kinds.Url l t d = url_again t
-sanitised_again kinds.Date l t d = kept_again (number_of kinds.Date) t
-sanitised_again kinds.Month l t d = kept_again (number_of kinds.Month) t
-sanitised_again kinds.Week l t d = kept_again (number_of kinds.Week) t
-sanitised_again kinds.Time l t d = kept_again (number_of kinds.Time) t
-sanitised_again kinds.Local l t d = local_again t
-sanitised_again kinds.Number l t d = kept_again (number_of kinds.Number) t
-sanitised_again kinds.Range l t d = range_again l t d
-sanitised_again kinds.Color l t d = color_again t
-sanitised_again kind l t d = refl
+-- what is kept, and what is normalised, is what the rule says
+kept_is : (kind : Kind) (t : List ℕ) → IsKeptIfValid (HasNumber kind) t (kept_if_number (number_of kind t) t)
+kept_is kind t = go (number_of kind t) refl
+  where
+    go : (o : Option ℤ) → number_of kind t ≡ o → IsKeptIfValid (HasNumber kind) t (kept_if_number o t)
+    go (Some n) e = inl ((n, number_found kind t n e), refl)
+    go None e = inr ((λ n h. let f : number_of kind t ≡ Some n = number_again kind t n h in cc), refl)
+
+normalised_is : (t : List ℕ) → IsNormalised t (local_sanitised t)
+normalised_is t = go (local_number t) refl
+  where
+    go : (o : Option ℤ) → local_number t ≡ o → IsNormalised t (unwrap_or (option_and_then local_text o) [])
+    go (Some n) e =
+        let s = local_number_text t n e in
+        let f : s.0 ≡ unwrap_or (local_text n) [] = sym (ap (λ o. unwrap_or o []) s.1) in
+        inl (n, (valid_local t n e, subst (λ r. IsShortestLocal r n) f (local_text_shortest n s.0 s.1)))
+    go None e = inr ((λ n h. let f : local_number t ≡ Some n = local_read t n h in cc), refl)
 
 -- The function gives what the rule of the state says.
 pub sanitised_is : (kind : Kind) (l : Limits) (t : List ℕ) → IsLimits kind l → HasDecimals l → IsSanitised kind l t (sanitised kind l t)
 sanitised_is kinds.Range l t h d = range_is l t h.step d
+sanitised_is kinds.Date l t h d = kept_is kinds.Date t
+sanitised_is kinds.Month l t h d = kept_is kinds.Month t
+sanitised_is kinds.Week l t h d = kept_is kinds.Week t
+sanitised_is kinds.Time l t h d = kept_is kinds.Time t
+sanitised_is kinds.Number l t h d = kept_is kinds.Number t
+sanitised_is kinds.Local l t h d = normalised_is t
 sanitised_is kind l t h d = refl

@@ -1,30 +1,23 @@
 -- The laws of the numbers of the states and of the texts that stand for them.
-use Rattle.std.proofs.Common.{◌≡◌, ℕ, ◌+◌, ◌-◌, ◌*◌, ◌/◌, ◌%◌, ◌^◌, ◌≤◌, zero, suc, cond, List, Option, Some, None, refl, ap, sym, subst, ◌∙◌, arith, ℤ, pos, negsuc, neg_ℤ, unsigned_abs}
+use Rattle.std.proofs.Common.{◌≡◌, ℕ, ◌+◌, ◌-◌, ◌*◌, ◌/◌, ◌%◌, ◌^◌, suc, cond, List, Option, Some, None, refl, ap, sym, subst, ◌∙◌, arith, ℤ, pos, negsuc, neg_ℤ, unsigned_abs}
 use Rattle.std.specs.Prelude.{◌==◌, nat_le, option_map, option_and_then}
-use Rattle.std.proofs.lemmas.Bool.{eqb-true, eq-eqb}
+use Rattle.std.proofs.lemmas.Bool.{eqb-true, eq-eqb, le-leb, leb-true}
 use Rattle.std.proofs.lemmas.Option.{option_and_then_some, same_Some}
 use Rattle.form_types.specs.declared.kind.Kind.{Kind}
 use Rattle.form_types.specs.declared.kind.Kind.TheVariants as kinds
 use Rattle.form_decimal.specs.Reading.{valid_number}
-use Rattle.form_decimal.specs.Printed.{printed}
-use Rattle.form_decimal.proofs.Laws.{valid_found, valid_again, valid_bound, printed_again}
-use Rattle.form_decimal.proofs.SpellingLemmas.{some_if}
-use Rattle.form_decimal.proofs.FoldLemmas.{le_true, true_le}
+use Rattle.form_decimal.specs.Printed.{IsPrinted, printed}
+use Rattle.form_decimal.proofs.Laws.{valid_found, valid_again, valid_bound, printed_again, printed_is}
+use Rattle.form_text.proofs.Laws.{some_if, some_map}
 use Rattle.form_calendar.specs.Date.{IsValidDate, date_number, date_text}
 use Rattle.form_calendar.specs.Month.{IsValidMonth, month_number, month_text}
 use Rattle.form_calendar.specs.Week.{IsValidWeek, week_number, week_text}
 use Rattle.form_calendar.specs.Time.{IsValidTime, time_number, time_text}
 use Rattle.form_calendar.specs.LocalDateTime.{IsValidLocal, local_number, local_text}
-use Rattle.form_calendar.proofs.DateLemmas.{date_found, date_again, date_bound}
-use Rattle.form_calendar.proofs.DateTexts.{date_text_back, date_number_text}
-use Rattle.form_calendar.proofs.MonthLemmas.{month_found, month_again, month_text_back, month_number_text, month_bound}
-use Rattle.form_calendar.proofs.WeekLemmas.{week_found, week_again, week_bound}
-use Rattle.form_calendar.proofs.WeekTexts.{week_text_back, week_number_text}
-use Rattle.form_calendar.proofs.TimeLemmas.{time_found, time_again}
-use Rattle.form_calendar.proofs.TimeTexts.{time_text_back, time_number_text, time_bound}
-use Rattle.form_calendar.proofs.LocalLemmas.{local_found, local_again}
-use Rattle.form_calendar.proofs.LocalTexts.{local_text_back, local_number_text, local_bound}
-use Rattle.form_states.specs.Numbers.{IsDecimal, in_units, IsWhole, HasNumber, number_of, whole_of, decimal_text, text_for}
+use Rattle.form_calendar.specs.Shortest.{IsShortest, IsShortestLocal}
+use Rattle.form_calendar.proofs.Laws.{date_found, date_again, date_text_back, date_text_shortest, date_number_text, month_found, month_again, month_text_back, month_text_shortest, month_number_text, week_found, week_again, week_text_back, week_text_shortest, week_number_text, time_found, time_again, time_text_back, time_text_shortest, time_number_text, local_found, local_again, local_text_back, local_text_shortest, local_number_text}
+use Rattle.form_states.specs.Numbers.{IsDecimal, in_units, IsWhole, whole_of, decimal_text}
+use Rattle.form_states.specs.States.{HasNumber, number_of, IsTextFor, text_for}
 
 -- ---- whole numbers
 
@@ -68,28 +61,12 @@ whole_found (negsuc k) m h =
     let f : k ≡ k / 1000000000000 * 1000000000000 + 999999999999 = omega arith in
     ap negsuc f ∙ sym (neg_units (k / 1000000000000)) ∙ ap in_units (same_Some (negsuc (k / 1000000000000)) m p.1)
 
-abs_neg : (j : ℕ) → unsigned_abs (neg_ℤ (pos j)) ≡ j
-abs_neg zero = refl
-abs_neg (suc j) = refl
-
--- a whole number of that size is a decimal
-pub units_fit : (m : ℤ) → unsigned_abs m ≤ 10 ^ 15 → IsDecimal (in_units m)
-units_fit (pos a) h = omega arith
-units_fit (negsuc a) h = rw (abs_neg (suc a * 1000000000000)) (omega arith)
-
-some_map : {A B : Type 0} (f : A → B) (o : Option A) (y : B) → option_map f o ≡ Some y → (x : A) × (o ≡ Some x) × (f x ≡ y)
-some_map f (Some x) y h = (x, refl, same_Some (f x) y h)
-some_map f None y h = cc
-
 -- what is read is a whole number with a meaning, and each such number is read
 whole_is : (read : List ℕ → Option ℤ) (IsValid : List ℕ → ℤ → Type 0) → ((t : List ℕ) (m : ℤ) → read t ≡ Some m → IsValid t m) → (t : List ℕ) (n : ℤ) → option_map in_units (read t) ≡ Some n → IsWhole (IsValid t) n
 whole_is read IsValid found t n h = let p = some_map in_units (read t) n h in (p.0, found t p.0 p.1, sym p.2)
 
 whole_only : (read : List ℕ → Option ℤ) (IsValid : List ℕ → ℤ → Type 0) → ((t : List ℕ) (m : ℤ) → IsValid t m → read t ≡ Some m) → (t : List ℕ) (n : ℤ) → IsWhole (IsValid t) n → option_map in_units (read t) ≡ Some n
 whole_only read IsValid again t n h = ap (option_map in_units) (again t h.0 h.1) ∙ ap Some (sym h.2)
-
-whole_bound : (read : List ℕ → Option ℤ) (IsValid : List ℕ → ℤ → Type 0) → ((t : List ℕ) (m : ℤ) → read t ≡ Some m → IsValid t m) → ((t : List ℕ) (m : ℤ) → IsValid t m → unsigned_abs m ≤ 10 ^ 15) → (t : List ℕ) (n : ℤ) → option_map in_units (read t) ≡ Some n → IsDecimal n
-whole_bound read IsValid found bound t n h = let p = some_map in_units (read t) n h in subst IsDecimal p.2 (units_fit p.0 (bound t p.0 (found t p.0 p.1)))
 
 -- a text that is written reads back
 pub whole_back : (read : List ℕ → Option ℤ) (write : ℤ → Option (List ℕ)) → ((m : ℤ) (t : List ℕ) → write m ≡ Some t → read t ≡ Some m) → (n : ℤ) (t : List ℕ) → option_and_then write (whole_of n) ≡ Some t → option_map in_units (read t) ≡ Some n
@@ -106,12 +83,12 @@ whole_there read write there t n h =
 -- ---- decimals
 
 pub decimal_there : (n : ℤ) → IsDecimal n → decimal_text n ≡ Some (printed n)
-decimal_there n h = ap (λ b. cond b (Some (printed n)) None) (true_le (unsigned_abs n) (10 ^ 29) h)
+decimal_there n h = ap (λ b. cond b (Some (printed n)) None) (le-leb (unsigned_abs n) (10 ^ 29) h)
 
 pub decimal_back : (n : ℤ) (t : List ℕ) → decimal_text n ≡ Some t → valid_number t ≡ Some n
 decimal_back n t h =
     let p = some_if (nat_le (unsigned_abs n) (10 ^ 29)) (Some (printed n)) t h in
-    subst (λ x. valid_number x ≡ Some n) (same_Some (printed n) t p.1) (printed_again n (le_true (unsigned_abs n) (10 ^ 29) p.0))
+    subst (λ x. valid_number x ≡ Some n) (same_Some (printed n) t p.1) (printed_again n (leb-true (unsigned_abs n) (10 ^ 29) p.0))
 
 decimal_written : (t : List ℕ) (n : ℤ) → valid_number t ≡ Some n → (s : List ℕ) × (decimal_text n ≡ Some s)
 decimal_written t n h = (printed n, decimal_there n (valid_bound t n h))
@@ -139,17 +116,6 @@ number_again kinds.Number text n h = valid_again text n h
 number_again kinds.Range text n h = valid_again text n h
 number_again kind text n h = absurd h
 
--- a number of a text is a decimal
-pub number_bound : (kind : Kind) (text : List ℕ) (n : ℤ) → number_of kind text ≡ Some n → IsDecimal n
-number_bound kinds.Date text n h = whole_bound date_number IsValidDate date_found date_bound text n h
-number_bound kinds.Month text n h = whole_bound month_number IsValidMonth month_found month_bound text n h
-number_bound kinds.Week text n h = whole_bound week_number IsValidWeek week_found week_bound text n h
-number_bound kinds.Time text n h = whole_bound time_number IsValidTime time_found time_bound text n h
-number_bound kinds.Local text n h = whole_bound local_number IsValidLocal local_found local_bound text n h
-number_bound kinds.Number text n h = valid_bound text n h
-number_bound kinds.Range text n h = valid_bound text n h
-number_bound kind text n h = cc
-
 -- the text of a number reads back as it
 pub text_back : (kind : Kind) (n : ℤ) (text : List ℕ) → text_for kind n ≡ Some text → number_of kind text ≡ Some n
 text_back kinds.Date n text h = whole_back date_number date_text date_text_back n text h
@@ -171,3 +137,26 @@ text_there kinds.Local text n h = whole_there local_number local_text local_numb
 text_there kinds.Number text n h = decimal_written text n h
 text_there kinds.Range text n h = decimal_written text n h
 text_there kind text n h = cc
+
+-- what is written is the text that stands for the number
+whole_written : (write : ℤ → Option (List ℕ)) (IsText : List ℕ → ℤ → Type 0) → ((m : ℤ) (t : List ℕ) → write m ≡ Some t → IsText t m) → (n : ℤ) (t : List ℕ) → option_and_then write (whole_of n) ≡ Some t → IsWhole (IsText t) n
+whole_written write IsText is n t h = go (whole_of n) refl h
+  where
+    go : (o : Option ℤ) → whole_of n ≡ o → option_and_then write o ≡ Some t → IsWhole (IsText t) n
+    go (Some m) e h = (m, is m t h, whole_found n m e)
+    go None e h = cc
+
+decimal_is : (n : ℤ) (t : List ℕ) → decimal_text n ≡ Some t → IsPrinted n t
+decimal_is n t h =
+    let p = some_if (nat_le (unsigned_abs n) (10 ^ 29)) (Some (printed n)) t h in
+    subst (IsPrinted n) (same_Some (printed n) t p.1) (printed_is n (leb-true (unsigned_abs n) (10 ^ 29) p.0))
+
+pub text_is : (kind : Kind) (n : ℤ) (text : List ℕ) → text_for kind n ≡ Some text → IsTextFor kind text n
+text_is kinds.Date n text h = whole_written date_text (IsShortest IsValidDate) date_text_shortest n text h
+text_is kinds.Month n text h = whole_written month_text (IsShortest IsValidMonth) month_text_shortest n text h
+text_is kinds.Week n text h = whole_written week_text (IsShortest IsValidWeek) week_text_shortest n text h
+text_is kinds.Time n text h = whole_written time_text (IsShortest IsValidTime) time_text_shortest n text h
+text_is kinds.Local n text h = whole_written local_text IsShortestLocal local_text_shortest n text h
+text_is kinds.Number n text h = decimal_is n text h
+text_is kinds.Range n text h = decimal_is n text h
+text_is kind n text h = cc

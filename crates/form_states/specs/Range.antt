@@ -6,7 +6,8 @@ use Rattle.form_decimal.specs.Reading.{valid_number}
 use Rattle.form_decimal.specs.Printed.{IsPrinted, printed}
 use Rattle.form_decimal.specs.Halving.{IsHalfBetween}
 use Rattle.form_decimal.specs.Alignment.{IsAligned, IsCandidate, IsNearestAligned}
-use Rattle.form_decimal.specs.Nearest.{is_same, is_aligned, nearest_of}
+use Rattle.std.specs.Ordering.{int_eq}
+use Rattle.form_decimal.specs.Nearest.{is_aligned, nearest_of}
 use Rattle.form_states.specs.declared.limits.Limits.{Limits}
 
 -- ---- the rule
@@ -66,7 +67,8 @@ abbrev pub high_of : Limits → ℤ
 high_of limits = unwrap_or limits.max (pos 0)
 
 abbrev pub IsRangeSanitised : Limits → List ℕ → List ℕ → Type 0
-IsRangeSanitised limits text result = IsCorrected (low_of limits) (high_of limits) limits.base limits.step text result
+IsRangeSanitised limits text result =
+    IsCorrected (low_of limits) (high_of limits) limits.base limits.step text result
 
 -- ---- the same as a function
 
@@ -108,7 +110,7 @@ corrected_in limits n = corrected (low_of limits) (top_in limits) limits.base li
 abbrev pub corrected_text : Limits → List ℕ → Option ℤ → List ℕ
 corrected_text limits text None = printed (corrected_in limits (default_in limits))
 corrected_text limits text (Some n) =
-    if is_same n (corrected_in limits n) then text else printed (corrected_in limits n)
+    if int_eq n (corrected_in limits n) then text else printed (corrected_in limits n)
 
 unfoldable pub range_sanitised : Limits → List ℕ → List ℕ
 range_sanitised limits text = corrected_text limits text (valid_number text)

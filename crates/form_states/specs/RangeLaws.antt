@@ -3,14 +3,14 @@ use Rattle.std.proofs.Common.{◌≡◌, inl, inr, ℕ, ◌/◌, Bool, true, fal
 use Rattle.std.specs.Prelude.{unwrap_or}
 use Rattle.std.proofs.lemmas.Int.{ints}
 use Rattle.std.proofs.lemmas.Option.{same_Some}
+use Rattle.std.specs.Ordering.{int_eq}
+use Rattle.std.proofs.lemmas.Bool.Decides.{Decides-int_eq}
 use Rattle.form_decimal.specs.Numeral.{IsValidNumber}
 use Rattle.form_decimal.specs.Reading.{valid_number}
 use Rattle.form_decimal.specs.Printed.{printed}
 use Rattle.form_decimal.specs.Halving.{IsHalfBetween}
-use Rattle.form_decimal.specs.Nearest.{is_same, is_aligned, nearest_of}
-use Rattle.form_decimal.proofs.ChoiceLemmas.{lt_true, lt_false}
-use Rattle.form_decimal.proofs.FoldLemmas.{IsDecided, same_true, true_same}
-use Rattle.form_decimal.proofs.Laws.{valid_found, valid_again, valid_bound, printed_again, printed_is, aligned_found, aligned_again, nearest_is, nearest_tested}
+use Rattle.form_decimal.specs.Nearest.{is_aligned, nearest_of}
+use Rattle.form_decimal.proofs.Laws.{lt_true, lt_false, valid_found, valid_again, valid_bound, printed_again, printed_is, aligned_found, aligned_again, IsDecided, nearest_is, nearest_tested}
 use Rattle.form_states.specs.declared.limits.Limits.{Limits}
 use Rattle.form_states.specs.Numbers.{IsDecimal}
 use Rattle.form_states.specs.Limits.{IsStep, HasDecimals}
@@ -151,8 +151,8 @@ unfolding range_sanitised
 printed_stays l n h =
     let c = corrected_in l n in
     ap (corrected_text l (printed c)) (printed_again c h)
-    ∙ ap (λ x. cond (is_same c x) (printed c) (printed x)) (corrected_in_again l n)
-    ∙ ap (λ b. cond b (printed c) (printed c)) (true_same c)
+    ∙ ap (λ x. cond (int_eq c x) (printed c) (printed x)) (corrected_in_again l n)
+    ∙ ap (λ b. cond b (printed c) (printed c)) ((Decides-int_eq c c).1 refl)
 
 pub range_again : (l : Limits) (t : List ℕ) → HasDecimals l → range_sanitised l (range_sanitised l t) ≡ range_sanitised l t
 unfolding range_sanitised
@@ -163,19 +163,11 @@ range_again l t d = go (valid_number t) refl
 
     go : (o : Option ℤ) → valid_number t ≡ o → range_sanitised l (corrected_text l t o) ≡ corrected_text l t o
     go None f = printed_stays l (default_in l) (corrected_fits l (default_in l) e (default_fits l e))
-    go (Some n) f = inner (is_same n (corrected_in l n)) refl
+    go (Some n) f = inner (int_eq n (corrected_in l n)) refl
       where
-        inner : (x : Bool) → is_same n (corrected_in l n) ≡ x → range_sanitised l (cond x t (printed (corrected_in l n))) ≡ cond x t (printed (corrected_in l n))
+        inner : (x : Bool) → int_eq n (corrected_in l n) ≡ x → range_sanitised l (cond x t (printed (corrected_in l n))) ≡ cond x t (printed (corrected_in l n))
         inner true g = ap (corrected_text l t) f ∙ ap (λ x. cond x t (printed (corrected_in l n))) g
         inner false g = printed_stays l n (corrected_fits l n e (valid_bound t n f))
-
--- the half that is rounded down is the half of the function
-pub half_same : (low high c : ℤ) → low ≤ℤ high → IsHalfBetween low high c → c ≡ low +ℤ half (high -ℤ low)
-half_same low high c w h = go (high -ℤ low) refl
-  where
-    go : (d : ℤ) → high -ℤ low ≡ d → c ≡ low +ℤ half d
-    go (pos a) e = omega (arith, ints, h.0, h.1, e)
-    go (negsuc a) e = absurd (omega (arith, ints))
 
 -- ---- the function is the rule
 
@@ -232,20 +224,20 @@ spelled_is l t None e h = record {
   kept = λ v. let f : valid_number t ≡ Some (corrected_in l (default_in l)) = valid_again t (corrected_in l (default_in l)) v in cc;
   printed = λ _. printed_is (corrected_in l (default_in l)) h;
 }
-spelled_is l t (Some n) e h = go (is_same n (corrected_in l n)) refl
+spelled_is l t (Some n) e h = go (int_eq n (corrected_in l n)) refl
   where
     c : ℤ
     c = corrected_in l n
 
-    go : (b : Bool) → is_same n (corrected_in l n) ≡ b → IsSpelledAs t (corrected_in l n) (cond b t (printed (corrected_in l n)))
+    go : (b : Bool) → int_eq n (corrected_in l n) ≡ b → IsSpelledAs t (corrected_in l n) (cond b t (printed (corrected_in l n)))
     go true s = record {
       kept = λ _. refl;
-      printed = λ no. absurd (no (subst (IsValidNumber t) (same_true n (corrected_in l n) s) (valid_found t n e)));
+      printed = λ no. absurd (no (subst (IsValidNumber t) ((Decides-int_eq n (corrected_in l n)).0 s) (valid_found t n e)));
     }
     go false s = record {
       kept = λ v.
           let f : n ≡ corrected_in l n = same_Some n (corrected_in l n) (sym e ∙ valid_again t (corrected_in l n) v) in
-          let g : is_same n (corrected_in l n) ≡ true = subst (λ x. is_same n x ≡ true) f (true_same n) in
+          let g : int_eq n (corrected_in l n) ≡ true = subst (λ x. int_eq n x ≡ true) f ((Decides-int_eq n n).1 refl) in
           cc;
       printed = λ _. printed_is (corrected_in l n) h;
     }

@@ -14,9 +14,8 @@
 #![tactic(auto)]
 
 ghost use Rattle.std.specs.Prelude.{◌≡◌, ◌↔◌, ℕ, ℤ, List, IfOk, IfSome, IsSome, Some, string_bytes, option_map};
-ghost use Rattle.form_states.specs.Numbers.{HasNumber, number_of, text_for};
+ghost use Rattle.form_states.specs.States.{HasNumber, IsTextFor, number_of, text_for, IsSanitised, sanitised};
 ghost use Rattle.form_states.specs.Limits.{IsLimits};
-ghost use Rattle.form_states.specs.Sanitised.{IsSanitised, sanitised};
 
 mod input_state;
 mod limits;
@@ -37,45 +36,27 @@ fn state_sanitise<S: InputState>(
     text: &str,
 ) -> Result<String, AllocError>
     requires { IsLimits S.KIND limits.now }
-    ensures { IfOk result (λ s. string_bytes s ≡ sanitised S.KIND limits.now text.now) }
+    ensures rule { IfOk result (λ s. IsSanitised S.KIND limits.now text.now (string_bytes s)) }
+    ensures value { IfOk result (λ s. string_bytes s ≡ sanitised S.KIND limits.now text.now) }
 {
+    limits.decimals();
     S::sanitise(alloc, text, limits)
 }
 
 fn state_number<S: InputState>(text: &str) -> Option<Decimal>
-    ensures { result ≡ number_of S.KIND text.now }
+    ensures found { IfSome result (HasNumber S.KIND text.now) }
+    ensures only { (n : ℤ) → HasNumber S.KIND text.now n → result ≡ Some n }
+    ensures value { result ≡ number_of S.KIND text.now }
 {
     S::number(text)
 }
 
 fn state_text_of<S: InputState>(alloc: Global, n: Decimal) -> Result<Option<String>, AllocError>
-    ensures { IfOk result (λ o. option_map string_bytes o ≡ text_for S.KIND n) }
+    ensures text { IfOk result (λ o. IfSome o (λ s. IsTextFor S.KIND (string_bytes s) n)) }
+    ensures some { IfOk result (λ o. IsSome o ↔ ((text : List ℕ) × HasNumber S.KIND text n)) }
+    ensures value { IfOk result (λ o. option_map string_bytes o ≡ text_for S.KIND n) }
 {
     S::text_of(alloc, n)
-}
-
-fn sanitised_in(
-    alloc: Global,
-    kind: Kind,
-    limits: &Limits,
-    text: &str,
-) -> Result<String, AllocError>
-    requires { IsLimits kind limits.now }
-    ensures { IfOk result (λ s. string_bytes s ≡ sanitised kind limits.now text.now) }
-{
-    with_state!(kind, state_sanitise, (alloc, limits, text))
-}
-
-fn number_in(kind: Kind, text: &str) -> Option<Decimal>
-    ensures { result ≡ number_of kind text.now }
-{
-    with_state!(kind, state_number, (text))
-}
-
-fn text_in(alloc: Global, kind: Kind, n: Decimal) -> Result<Option<String>, AllocError>
-    ensures { IfOk result (λ o. option_map string_bytes o ≡ text_for kind n) }
-{
-    with_state!(kind, state_text_of, (alloc, n))
 }
 
 /// The text that the state's value sanitization algorithm makes of a text.
@@ -89,26 +70,27 @@ pub fn sanitise(
     ensures rule { IfOk result (λ s. IsSanitised kind limits.now text.now (string_bytes s)) }
     ensures value { IfOk result (λ s. string_bytes s ≡ sanitised kind limits.now text.now) }
 {
-    limits.decimals();
-    sanitised_in(alloc, kind, limits, text)
+    with_state!(kind, state_sanitise, (alloc, limits, text))
 }
 
 /// The number of the text in that state. None exactly where the state has no numbers or the text
 /// is no valid string of the state.
+#[tactic(auto, using(crate::specs::NumberLaws::number_again))]
 pub fn number(kind: Kind, text: &str) -> Option<Decimal>
     ensures found { IfSome result (HasNumber kind text.now) }
     ensures only { (n : ℤ) → HasNumber kind text.now n → result ≡ Some n }
     ensures value { result ≡ number_of kind text.now }
 {
-    number_in(kind, text)
+    with_state!(kind, state_number, (text))
 }
 
 /// The text that stands for the number in that state: the printed form in number and range, and
 /// the shortest valid string in the date and time states. None exactly where no valid string of
 /// the state has that number.
 pub fn text_of(alloc: Global, kind: Kind, n: Decimal) -> Result<Option<String>, AllocError>
+    ensures text { IfOk result (λ o. IfSome o (λ s. IsTextFor kind (string_bytes s) n)) }
     ensures some { IfOk result (λ o. IsSome o ↔ ((text : List ℕ) × HasNumber kind text n)) }
     ensures value { IfOk result (λ o. option_map string_bytes o ≡ text_for kind n) }
 {
-    text_in(alloc, kind, n)
+    with_state!(kind, state_text_of, (alloc, n))
 }

@@ -1,15 +1,16 @@
 //! The limits of a control, by its attributes (HTML, "The min and max attributes", "The step
 //! attribute").
-ghost use Rattle.std.specs.Prelude.{◌≡◌, ℤ, pos, negsuc, ◌*ℤ◌, ◌≤ℤ◌, ◌<ℤ◌, ◌^◌, ◌≤◌, Option, Some, None, IfSome, unwrap_or, option_map, unsigned_abs, codes};
-ghost use Rattle.std.specs.Option.{option_or};
+ghost use Rattle.std.specs.Prelude.{◌≡◌, true, false, ℤ, pos, ◌*ℤ◌, ◌≤ℤ◌, ◌^◌, ◌≤◌, Option, Some, None, IfSome, unwrap_or, option_map, unsigned_abs, codes};
 ghost use Rattle.std.specs.Str.{str_eq_ignore_ascii_case};
 ghost use Rattle.form_types.specs.declared.kind.Kind.{Kind};
 ghost use Rattle.form_states.specs.Numbers.{IsDecimal, in_units};
-ghost use Rattle.form_states.specs.Limits.{attribute_number, number_in, default_minimum, default_maximum, default_step_base, step_by, positive_or, allowed_value_step, limits_of, IsScale, IsDefaultStep, IsStep, IsLimits, HasDecimals};
+ghost use Rattle.form_states.specs.States.{rules_of};
+ghost use Rattle.form_states.specs.Limits.{attribute_number, number_in, step_by, positive_or, allowed_value_step, limits_of, IsScale, IsDefaultStep, IsStep, IsLimits, HasDecimals};
 
+use crate::number;
 use crate::whole::whole;
-use form_decimal::{Decimal, is_below, read_lenient};
-use form_types::{Kind, default_step, scale, with_state};
+use form_decimal::{Decimal, read_lenient};
+use form_types::{Kind, Row, default_step, scale, with_state};
 
 /// The limits of a control, as numbers: its minimum, maximum, allowed value step and step base.
 /// A decimal counts units of 10^-12, and so does the step.
@@ -90,23 +91,20 @@ fn from_attributes(
 }
 
 /// What a state says of limits beside the table of types.
-pub(crate) trait LimitedState {
-    ghost KIND: { Kind };
-
-    /// The number of the text of a `min`, `max` or `value` attribute.
-    fn attribute_number(text: &str) -> Option<Decimal>
-        ensures { result ≡ attribute_number KIND text.now };
-
+pub(crate) trait LimitedState: Row {
     /// What stands where no attribute gives a number.
     fn defaults() -> Defaults
-        ensures min { result.min ≡ default_minimum KIND }
-        ensures max { result.max ≡ default_maximum KIND }
-        ensures base { result.base ≡ default_step_base KIND };
+        ensures lenient { result.lenient ≡ (rules_of Self.KIND).lenient }
+        ensures min { result.min ≡ (rules_of Self.KIND).minimum }
+        ensures max { result.max ≡ (rules_of Self.KIND).maximum }
+        ensures base { result.base ≡ (rules_of Self.KIND).base };
 }
 
-/// The default minimum, the default maximum and the default step base of a state.
+/// Whether the attributes of a state are read by the rules for parsing floating-point number values,
+/// and its default minimum, maximum and step base.
 #[derive(Drop)]
 pub(crate) struct Defaults {
+    lenient: bool,
     min: Option<Decimal>,
     max: Option<Decimal>,
     base: Decimal,
@@ -114,10 +112,11 @@ pub(crate) struct Defaults {
 
 impl Defaults {
     /// No ends, and 0 as the step base.
-    pub(crate) fn none() -> Defaults
-        ensures { result ≡ record { min = None; max = None; base = pos 0 } }
+    pub(crate) fn none(lenient: bool) -> Defaults
+        ensures { result ≡ record { lenient = lenient; min = None; max = None; base = pos 0 } }
     {
         Defaults {
+            lenient,
             min: None,
             max: None,
             base: Decimal::zero(),
@@ -127,9 +126,10 @@ impl Defaults {
     /// No ends, and a step base of its own.
     pub(crate) fn from_base(base: i64) -> Defaults
         requires { unsigned_abs base ≤ 10 ^ 15 }
-        ensures { result ≡ record { min = None; max = None; base = in_units base } }
+        ensures { result ≡ record { lenient = false; min = None; max = None; base = in_units base } }
     {
         Defaults {
+            lenient: false,
             min: None,
             max: None,
             base: whole(base),
@@ -140,9 +140,15 @@ impl Defaults {
     pub(crate) fn from_ends(min: i64, max: i64) -> Defaults
         requires low { unsigned_abs min ≤ 10 ^ 15 }
         requires high { unsigned_abs max ≤ 10 ^ 15 }
-        ensures { result ≡ record { min = Some (in_units min); max = Some (in_units max); base = pos 0 } }
+        ensures { result ≡ record {
+          lenient = true;
+          min = Some (in_units min);
+          max = Some (in_units max);
+          base = pos 0;
+        } }
     {
         Defaults {
+            lenient: true,
             min: Some(whole(min)),
             max: Some(whole(max)),
             base: Decimal::zero(),
@@ -150,16 +156,14 @@ impl Defaults {
     }
 }
 
-fn state_attribute_number<S: LimitedState>(text: &str) -> Option<Decimal>
-    ensures { result ≡ attribute_number S.KIND text.now }
-{
-    S::attribute_number(text)
-}
-
 fn attribute_number(kind: Kind, text: &str) -> Option<Decimal>
     ensures { result ≡ attribute_number kind text.now }
 {
-    with_state!(kind, state_attribute_number, (text))
+    if defaults_of(kind).lenient {
+        read_lenient(text)
+    } else {
+        number(kind, text)
+    }
 }
 
 fn number_in(kind: Kind, attribute: Option<&str>) -> Option<Decimal>
@@ -172,17 +176,19 @@ fn number_in(kind: Kind, attribute: Option<&str>) -> Option<Decimal>
 }
 
 fn state_defaults<S: LimitedState>() -> Defaults
-    ensures min { result.min ≡ default_minimum S.KIND }
-    ensures max { result.max ≡ default_maximum S.KIND }
-    ensures base { result.base ≡ default_step_base S.KIND }
+    ensures lenient { result.lenient ≡ (rules_of S.KIND).lenient }
+    ensures min { result.min ≡ (rules_of S.KIND).minimum }
+    ensures max { result.max ≡ (rules_of S.KIND).maximum }
+    ensures base { result.base ≡ (rules_of S.KIND).base }
 {
     S::defaults()
 }
 
 fn defaults_of(kind: Kind) -> Defaults
-    ensures min { result.min ≡ default_minimum kind }
-    ensures max { result.max ≡ default_maximum kind }
-    ensures base { result.base ≡ default_step_base kind }
+    ensures lenient { result.lenient ≡ (rules_of kind).lenient }
+    ensures min { result.min ≡ (rules_of kind).minimum }
+    ensures max { result.max ≡ (rules_of kind).maximum }
+    ensures base { result.base ≡ (rules_of kind).base }
 {
     with_state!(kind, state_defaults, ())
 }
@@ -228,13 +234,7 @@ fn positive_or(default: Decimal, n: Option<Decimal>) -> Decimal
     ensures positive { pos 1 ≤ℤ result }
 {
     match n {
-        Some(n) => {
-            if is_below(Decimal::zero(), n) {
-                n
-            } else {
-                default
-            }
-        }
+        Some(n) => { if Decimal::zero() < n { n } else { default } }
         None => default,
     }
 }

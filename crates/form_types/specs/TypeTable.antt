@@ -6,6 +6,7 @@ use Rattle.std.specs.Str.{str_eq_ignore_ascii_case}
 use denote.Enum.Bare.{sameb}
 use Rattle.form_types.specs.contracts.kind.Kind.{the_type as Kinds}
 use Rattle.form_types.specs.contracts.kind.Attr.{the_type as Attrs}
+use Rattle.form_types.specs.contracts.kind.ButtonKind.{the_type as ButtonKinds}
 use Rattle.form_types.specs.declared.kind.Kind.{Kind}
 use Rattle.form_types.specs.declared.kind.Kind.TheVariants as kinds
 use Rattle.form_types.specs.declared.kind.Mode.{Mode}
@@ -101,6 +102,27 @@ blocks kind = (row_of kind).blocks
 -- whether the attribute applies to the state
 abbrev pub applies_to : Kind → Attr → Bool
 applies_to kind attr = is_listed attr (row_of kind).attributes
+
+-- the state is one of these
+abbrev pub is_one_of : Kind → List Kind → Bool
+is_one_of kind listed = list_any (λ k. sameb Kinds k kind) listed
+
+-- an input in that state is a submit button (HTML, "Categories")
+abbrev pub is_submit_button : Kind → Bool
+is_submit_button kind = is_one_of kind (kinds.Submit ∷ kinds.Image ∷ [])
+
+-- an input in that state is a button (HTML, "Categories")
+abbrev pub is_button : Kind → Bool
+is_button kind = is_one_of kind (kinds.Submit ∷ kinds.Image ∷ kinds.Reset ∷ kinds.Button ∷ [])
+
+-- the state has a periodic domain, so that its range may be reversed (HTML, "The min and max
+-- attributes")
+abbrev pub has_periodic_domain : Kind → Bool
+has_periodic_domain kind = is_one_of kind (kinds.Time ∷ [])
+
+-- a button element of that kind is a submit button; each button element is a button
+abbrev pub is_submit_kind : ButtonKind → Bool
+is_submit_kind kind = sameb ButtonKinds buttons.Submit kind
 
 -- the state that a keyword names among these rows, ASCII case-insensitively, or else Text
 unfoldable pub kind_in : List ℕ → List TypeRow → Kind

@@ -1,7 +1,7 @@
 //! The states, what their values are, and the attributes that apply to some of them only.
 ghost use Rattle.std.specs.Prelude.{◌≡◌, option_map, IsErr, IfOk, IsTrue, ◌↔◌};
 ghost use Rattle.std.specs.Str.{str_eq_ignore_ascii_case};
-ghost use Rattle.form_types.specs.TypeTable.{names_email, kind_named, kind_in, type_table, button_kind_named};
+ghost use Rattle.form_types.specs.TypeTable.{names_email, kind_named, kind_in, type_table, button_kind_named, is_submit_button, is_button, has_periodic_domain, is_submit_kind};
 
 use crate::{keyword_of, with_state};
 use thiserror::Error;
@@ -87,6 +87,31 @@ impl Kind {
         }
         Ok(kind_named(keyword))
     }
+
+    /// Whether an input in that state is a submit button (HTML, "Categories").
+    pub fn is_submit_button(self) -> bool
+        ensures { result ≡ is_submit_button self }
+    {
+        matches!(self, Kind::Submit | Kind::Image)
+    }
+
+    /// Whether an input in that state is a button (HTML, "Categories").
+    pub fn is_button(self) -> bool
+        ensures { result ≡ is_button self }
+    {
+        matches!(
+            self,
+            Kind::Submit | Kind::Image | Kind::Reset | Kind::Button
+        )
+    }
+
+    /// Whether the state has a periodic domain, so that its range may be reversed (HTML, "The min
+    /// and max attributes"): time alone.
+    pub fn has_periodic_domain(self) -> bool
+        ensures { result ≡ has_periodic_domain self }
+    {
+        matches!(self, Kind::Time)
+    }
 }
 
 fn is_keyword(text: &str, keyword: &str) -> bool
@@ -123,5 +148,13 @@ impl ButtonKind {
             return ButtonKind::Button;
         }
         ButtonKind::Submit
+    }
+
+    /// Whether a button element of that kind is a submit button (HTML, "Categories"). Each button
+    /// element is a button.
+    pub fn is_submit_button(self) -> bool
+        ensures { result ≡ is_submit_kind self }
+    {
+        matches!(self, ButtonKind::Submit)
     }
 }

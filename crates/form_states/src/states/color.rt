@@ -5,26 +5,16 @@
 ghost use Rattle.std.specs.Prelude.{◌≡◌, IfOk, string_bytes};
 ghost use Rattle.std.specs.List.{list_all};
 ghost use Rattle.std.specs.Char.{is_ascii_hexdigit};
-ghost use Rattle.form_types.specs.declared.kind.Kind.{Kind};
-ghost use Rattle.form_types.specs.TypeTable.{mode_of};
 ghost use Rattle.form_states.specs.Sanitised.{is_simple_color, color_sanitised};
 ghost use Rattle.form_states.specs.Laws.{color_again};
 
 use crate::input_state::InputState;
 use crate::limits::{Defaults, LimitedState, Limits};
 use form_decimal::Decimal;
-use form_types::{ColorRow, Kind, Mode};
+use form_types::ColorRow;
 use std::alloc::{AllocError, Global};
 
 impl InputState for ColorRow {
-    const KIND: Kind = Kind::Color;
-
-    const MODE: Mode = Mode::Value;
-
-    ghost KIND = { Kind.Color };
-
-    ghost MODE = { mode_of Kind.Color };
-
     fn sanitise(alloc: Global, text: &str, _limits: &Limits) -> Result<String, AllocError> {
         lower_case_or_black(alloc, text)
     }
@@ -43,14 +33,8 @@ impl InputState for ColorRow {
 }
 
 impl LimitedState for ColorRow {
-    ghost KIND = { Kind.Color };
-
-    fn attribute_number(_text: &str) -> Option<Decimal> {
-        None
-    }
-
     fn defaults() -> Defaults {
-        Defaults::none()
+        Defaults::none(false)
     }
 }
 

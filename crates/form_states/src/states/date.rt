@@ -5,10 +5,9 @@
 
 ghost use Rattle.std.specs.Prelude.{◌≡◌};
 ghost use Rattle.form_types.specs.declared.kind.Kind.{Kind};
-ghost use Rattle.form_types.specs.TypeTable.{mode_of};
 ghost use Rattle.form_calendar.specs.Date.{date_number, date_text};
-ghost use Rattle.form_calendar.proofs.DateTexts.{date_text_back};
-ghost use Rattle.form_states.specs.Numbers.{number_of};
+ghost use Rattle.form_calendar.proofs.Laws.{date_text_back};
+ghost use Rattle.form_states.specs.States.{number_of};
 ghost use Rattle.form_states.specs.NumberLaws.{whole_back};
 ghost use Rattle.form_states.specs.Laws.{kept_again};
 
@@ -17,18 +16,10 @@ use crate::limits::{Defaults, LimitedState, Limits};
 use crate::whole::{in_units, kept_if_number, whole_of};
 use form_calendar::{print_date, read_date};
 use form_decimal::Decimal;
-use form_types::{DateRow, Kind, Mode};
+use form_types::DateRow;
 use std::alloc::{AllocError, Global};
 
 impl InputState for DateRow {
-    const KIND: Kind = Kind::Date;
-
-    const MODE: Mode = Mode::Value;
-
-    ghost KIND = { Kind.Date };
-
-    ghost MODE = { mode_of Kind.Date };
-
     fn sanitise(alloc: Global, text: &str, _limits: &Limits) -> Result<String, AllocError> {
         kept_if_number(alloc, number(text), text)
     }
@@ -50,14 +41,8 @@ impl InputState for DateRow {
 }
 
 impl LimitedState for DateRow {
-    ghost KIND = { Kind.Date };
-
-    fn attribute_number(text: &str) -> Option<Decimal> {
-        number(text)
-    }
-
     fn defaults() -> Defaults {
-        Defaults::none()
+        Defaults::none(false)
     }
 }
 

@@ -2,26 +2,16 @@
 
 #![tactic(auto, unfolding(form_types::specs::TypeTable::row_of))]
 
-ghost use Rattle.form_types.specs.declared.kind.Kind.{Kind};
-ghost use Rattle.form_types.specs.TypeTable.{mode_of};
 ghost use Rattle.form_text.proofs.Laws.{without_newlines_again};
 
 use crate::input_state::InputState;
 use crate::limits::{Defaults, LimitedState, Limits};
 use form_decimal::Decimal;
 use form_text::strip_newlines;
-use form_types::{Kind, Mode, PasswordRow, SearchRow, TelRow, TextRow};
+use form_types::{PasswordRow, SearchRow, TelRow, TextRow};
 use std::alloc::{AllocError, Global};
 
 impl InputState for TextRow {
-    const KIND: Kind = Kind::Text;
-
-    const MODE: Mode = Mode::Value;
-
-    ghost KIND = { Kind.Text };
-
-    ghost MODE = { mode_of Kind.Text };
-
     fn sanitise(alloc: Global, text: &str, _limits: &Limits) -> Result<String, AllocError> {
         strip_newlines(alloc, text)
     }
@@ -40,26 +30,12 @@ impl InputState for TextRow {
 }
 
 impl LimitedState for TextRow {
-    ghost KIND = { Kind.Text };
-
-    fn attribute_number(_text: &str) -> Option<Decimal> {
-        None
-    }
-
     fn defaults() -> Defaults {
-        Defaults::none()
+        Defaults::none(false)
     }
 }
 
 impl InputState for SearchRow {
-    const KIND: Kind = Kind::Search;
-
-    const MODE: Mode = Mode::Value;
-
-    ghost KIND = { Kind.Search };
-
-    ghost MODE = { mode_of Kind.Search };
-
     fn sanitise(alloc: Global, text: &str, _limits: &Limits) -> Result<String, AllocError> {
         strip_newlines(alloc, text)
     }
@@ -78,26 +54,12 @@ impl InputState for SearchRow {
 }
 
 impl LimitedState for SearchRow {
-    ghost KIND = { Kind.Search };
-
-    fn attribute_number(_text: &str) -> Option<Decimal> {
-        None
-    }
-
     fn defaults() -> Defaults {
-        Defaults::none()
+        Defaults::none(false)
     }
 }
 
 impl InputState for TelRow {
-    const KIND: Kind = Kind::Tel;
-
-    const MODE: Mode = Mode::Value;
-
-    ghost KIND = { Kind.Tel };
-
-    ghost MODE = { mode_of Kind.Tel };
-
     fn sanitise(alloc: Global, text: &str, _limits: &Limits) -> Result<String, AllocError> {
         strip_newlines(alloc, text)
     }
@@ -116,26 +78,12 @@ impl InputState for TelRow {
 }
 
 impl LimitedState for TelRow {
-    ghost KIND = { Kind.Tel };
-
-    fn attribute_number(_text: &str) -> Option<Decimal> {
-        None
-    }
-
     fn defaults() -> Defaults {
-        Defaults::none()
+        Defaults::none(false)
     }
 }
 
 impl InputState for PasswordRow {
-    const KIND: Kind = Kind::Password;
-
-    const MODE: Mode = Mode::Value;
-
-    ghost KIND = { Kind.Password };
-
-    ghost MODE = { mode_of Kind.Password };
-
     fn sanitise(alloc: Global, text: &str, _limits: &Limits) -> Result<String, AllocError> {
         strip_newlines(alloc, text)
     }
@@ -154,13 +102,7 @@ impl InputState for PasswordRow {
 }
 
 impl LimitedState for PasswordRow {
-    ghost KIND = { Kind.Password };
-
-    fn attribute_number(_text: &str) -> Option<Decimal> {
-        None
-    }
-
     fn defaults() -> Defaults {
-        Defaults::none()
+        Defaults::none(false)
     }
 }

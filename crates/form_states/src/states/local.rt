@@ -5,10 +5,9 @@
 
 ghost use Rattle.std.specs.Prelude.{◌≡◌, IfOk, string_bytes};
 ghost use Rattle.form_types.specs.declared.kind.Kind.{Kind};
-ghost use Rattle.form_types.specs.TypeTable.{mode_of};
 ghost use Rattle.form_calendar.specs.LocalDateTime.{local_number, local_text};
-ghost use Rattle.form_calendar.proofs.LocalTexts.{local_text_back};
-ghost use Rattle.form_states.specs.Numbers.{number_of};
+ghost use Rattle.form_calendar.proofs.Laws.{local_text_back};
+ghost use Rattle.form_states.specs.States.{number_of};
 ghost use Rattle.form_states.specs.Sanitised.{local_sanitised};
 ghost use Rattle.form_states.specs.NumberLaws.{whole_back};
 ghost use Rattle.form_states.specs.Laws.{local_again};
@@ -18,18 +17,10 @@ use crate::limits::{Defaults, LimitedState, Limits};
 use crate::whole::{in_units, whole_of};
 use form_calendar::{print_local, read_local};
 use form_decimal::Decimal;
-use form_types::{Kind, LocalRow, Mode};
+use form_types::LocalRow;
 use std::alloc::{AllocError, Global};
 
 impl InputState for LocalRow {
-    const KIND: Kind = Kind::Local;
-
-    const MODE: Mode = Mode::Value;
-
-    ghost KIND = { Kind.Local };
-
-    ghost MODE = { mode_of Kind.Local };
-
     fn sanitise(alloc: Global, text: &str, _limits: &Limits) -> Result<String, AllocError> {
         normalised(alloc, text)
     }
@@ -51,14 +42,8 @@ impl InputState for LocalRow {
 }
 
 impl LimitedState for LocalRow {
-    ghost KIND = { Kind.Local };
-
-    fn attribute_number(text: &str) -> Option<Decimal> {
-        number(text)
-    }
-
     fn defaults() -> Defaults {
-        Defaults::none()
+        Defaults::none(false)
     }
 }
 

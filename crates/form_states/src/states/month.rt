@@ -5,10 +5,9 @@
 
 ghost use Rattle.std.specs.Prelude.{◌≡◌};
 ghost use Rattle.form_types.specs.declared.kind.Kind.{Kind};
-ghost use Rattle.form_types.specs.TypeTable.{mode_of};
 ghost use Rattle.form_calendar.specs.Month.{month_number, month_text};
-ghost use Rattle.form_calendar.proofs.MonthLemmas.{month_text_back};
-ghost use Rattle.form_states.specs.Numbers.{number_of};
+ghost use Rattle.form_calendar.proofs.Laws.{month_text_back};
+ghost use Rattle.form_states.specs.States.{number_of};
 ghost use Rattle.form_states.specs.NumberLaws.{whole_back};
 ghost use Rattle.form_states.specs.Laws.{kept_again};
 
@@ -17,18 +16,10 @@ use crate::limits::{Defaults, LimitedState, Limits};
 use crate::whole::{in_units, kept_if_number, whole_of};
 use form_calendar::{print_month, read_month};
 use form_decimal::Decimal;
-use form_types::{Kind, Mode, MonthRow};
+use form_types::MonthRow;
 use std::alloc::{AllocError, Global};
 
 impl InputState for MonthRow {
-    const KIND: Kind = Kind::Month;
-
-    const MODE: Mode = Mode::Value;
-
-    ghost KIND = { Kind.Month };
-
-    ghost MODE = { mode_of Kind.Month };
-
     fn sanitise(alloc: Global, text: &str, _limits: &Limits) -> Result<String, AllocError> {
         kept_if_number(alloc, number(text), text)
     }
@@ -50,14 +41,8 @@ impl InputState for MonthRow {
 }
 
 impl LimitedState for MonthRow {
-    ghost KIND = { Kind.Month };
-
-    fn attribute_number(text: &str) -> Option<Decimal> {
-        number(text)
-    }
-
     fn defaults() -> Defaults {
-        Defaults::none()
+        Defaults::none(false)
     }
 }
 

@@ -4,27 +4,18 @@
 #![tactic(auto, unfolding(form_types::specs::TypeTable::row_of))]
 
 ghost use Rattle.form_types.specs.declared.kind.Kind.{Kind};
-ghost use Rattle.form_types.specs.TypeTable.{mode_of};
-ghost use Rattle.form_states.specs.Numbers.{number_of};
+ghost use Rattle.form_states.specs.States.{number_of};
 ghost use Rattle.form_states.specs.NumberLaws.{decimal_back};
 ghost use Rattle.form_states.specs.Laws.{kept_again};
 
 use crate::input_state::InputState;
 use crate::limits::{Defaults, LimitedState, Limits};
 use crate::whole::{decimal_text, kept_if_number};
-use form_decimal::{Decimal, read_lenient, read_valid};
-use form_types::{Kind, Mode, NumberRow};
+use form_decimal::{Decimal, read_valid};
+use form_types::NumberRow;
 use std::alloc::{AllocError, Global};
 
 impl InputState for NumberRow {
-    const KIND: Kind = Kind::Number;
-
-    const MODE: Mode = Mode::Value;
-
-    ghost KIND = { Kind.Number };
-
-    ghost MODE = { mode_of Kind.Number };
-
     fn sanitise(alloc: Global, text: &str, _limits: &Limits) -> Result<String, AllocError> {
         kept_if_number(alloc, read_valid(text), text)
     }
@@ -43,13 +34,7 @@ impl InputState for NumberRow {
 }
 
 impl LimitedState for NumberRow {
-    ghost KIND = { Kind.Number };
-
-    fn attribute_number(text: &str) -> Option<Decimal> {
-        read_lenient(text)
-    }
-
     fn defaults() -> Defaults {
-        Defaults::none()
+        Defaults::none(true)
     }
 }

@@ -4,26 +4,16 @@
 #![tactic(auto, unfolding(form_types::specs::TypeTable::row_of))]
 
 ghost use Rattle.std.proofs.Common.{refl};
-ghost use Rattle.form_types.specs.declared.kind.Kind.{Kind};
-ghost use Rattle.form_types.specs.TypeTable.{mode_of};
 
 use crate::input_state::InputState;
 use crate::limits::{Defaults, LimitedState, Limits};
 use form_decimal::Decimal;
 use form_types::{
-    ButtonRow, CheckboxRow, FileRow, HiddenRow, ImageRow, Kind, Mode, RadioRow, ResetRow, SubmitRow,
+    ButtonRow, CheckboxRow, FileRow, HiddenRow, ImageRow, RadioRow, ResetRow, SubmitRow,
 };
 use std::alloc::{AllocError, Global};
 
 impl InputState for HiddenRow {
-    const KIND: Kind = Kind::Hidden;
-
-    const MODE: Mode = Mode::Default;
-
-    ghost KIND = { Kind.Hidden };
-
-    ghost MODE = { mode_of Kind.Hidden };
-
     fn sanitise(alloc: Global, text: &str, _limits: &Limits) -> Result<String, AllocError> {
         String::from_str(alloc, text)
     }
@@ -42,26 +32,12 @@ impl InputState for HiddenRow {
 }
 
 impl LimitedState for HiddenRow {
-    ghost KIND = { Kind.Hidden };
-
-    fn attribute_number(_text: &str) -> Option<Decimal> {
-        None
-    }
-
     fn defaults() -> Defaults {
-        Defaults::none()
+        Defaults::none(false)
     }
 }
 
 impl InputState for CheckboxRow {
-    const KIND: Kind = Kind::Checkbox;
-
-    const MODE: Mode = Mode::DefaultOn;
-
-    ghost KIND = { Kind.Checkbox };
-
-    ghost MODE = { mode_of Kind.Checkbox };
-
     fn sanitise(alloc: Global, text: &str, _limits: &Limits) -> Result<String, AllocError> {
         String::from_str(alloc, text)
     }
@@ -80,26 +56,12 @@ impl InputState for CheckboxRow {
 }
 
 impl LimitedState for CheckboxRow {
-    ghost KIND = { Kind.Checkbox };
-
-    fn attribute_number(_text: &str) -> Option<Decimal> {
-        None
-    }
-
     fn defaults() -> Defaults {
-        Defaults::none()
+        Defaults::none(false)
     }
 }
 
 impl InputState for RadioRow {
-    const KIND: Kind = Kind::Radio;
-
-    const MODE: Mode = Mode::DefaultOn;
-
-    ghost KIND = { Kind.Radio };
-
-    ghost MODE = { mode_of Kind.Radio };
-
     fn sanitise(alloc: Global, text: &str, _limits: &Limits) -> Result<String, AllocError> {
         String::from_str(alloc, text)
     }
@@ -118,26 +80,12 @@ impl InputState for RadioRow {
 }
 
 impl LimitedState for RadioRow {
-    ghost KIND = { Kind.Radio };
-
-    fn attribute_number(_text: &str) -> Option<Decimal> {
-        None
-    }
-
     fn defaults() -> Defaults {
-        Defaults::none()
+        Defaults::none(false)
     }
 }
 
 impl InputState for FileRow {
-    const KIND: Kind = Kind::File;
-
-    const MODE: Mode = Mode::Filename;
-
-    ghost KIND = { Kind.File };
-
-    ghost MODE = { mode_of Kind.File };
-
     fn sanitise(alloc: Global, text: &str, _limits: &Limits) -> Result<String, AllocError> {
         String::from_str(alloc, text)
     }
@@ -156,26 +104,12 @@ impl InputState for FileRow {
 }
 
 impl LimitedState for FileRow {
-    ghost KIND = { Kind.File };
-
-    fn attribute_number(_text: &str) -> Option<Decimal> {
-        None
-    }
-
     fn defaults() -> Defaults {
-        Defaults::none()
+        Defaults::none(false)
     }
 }
 
 impl InputState for SubmitRow {
-    const KIND: Kind = Kind::Submit;
-
-    const MODE: Mode = Mode::Default;
-
-    ghost KIND = { Kind.Submit };
-
-    ghost MODE = { mode_of Kind.Submit };
-
     fn sanitise(alloc: Global, text: &str, _limits: &Limits) -> Result<String, AllocError> {
         String::from_str(alloc, text)
     }
@@ -194,26 +128,12 @@ impl InputState for SubmitRow {
 }
 
 impl LimitedState for SubmitRow {
-    ghost KIND = { Kind.Submit };
-
-    fn attribute_number(_text: &str) -> Option<Decimal> {
-        None
-    }
-
     fn defaults() -> Defaults {
-        Defaults::none()
+        Defaults::none(false)
     }
 }
 
 impl InputState for ImageRow {
-    const KIND: Kind = Kind::Image;
-
-    const MODE: Mode = Mode::Default;
-
-    ghost KIND = { Kind.Image };
-
-    ghost MODE = { mode_of Kind.Image };
-
     fn sanitise(alloc: Global, text: &str, _limits: &Limits) -> Result<String, AllocError> {
         String::from_str(alloc, text)
     }
@@ -232,26 +152,12 @@ impl InputState for ImageRow {
 }
 
 impl LimitedState for ImageRow {
-    ghost KIND = { Kind.Image };
-
-    fn attribute_number(_text: &str) -> Option<Decimal> {
-        None
-    }
-
     fn defaults() -> Defaults {
-        Defaults::none()
+        Defaults::none(false)
     }
 }
 
 impl InputState for ResetRow {
-    const KIND: Kind = Kind::Reset;
-
-    const MODE: Mode = Mode::Default;
-
-    ghost KIND = { Kind.Reset };
-
-    ghost MODE = { mode_of Kind.Reset };
-
     fn sanitise(alloc: Global, text: &str, _limits: &Limits) -> Result<String, AllocError> {
         String::from_str(alloc, text)
     }
@@ -270,26 +176,12 @@ impl InputState for ResetRow {
 }
 
 impl LimitedState for ResetRow {
-    ghost KIND = { Kind.Reset };
-
-    fn attribute_number(_text: &str) -> Option<Decimal> {
-        None
-    }
-
     fn defaults() -> Defaults {
-        Defaults::none()
+        Defaults::none(false)
     }
 }
 
 impl InputState for ButtonRow {
-    const KIND: Kind = Kind::Button;
-
-    const MODE: Mode = Mode::Default;
-
-    ghost KIND = { Kind.Button };
-
-    ghost MODE = { mode_of Kind.Button };
-
     fn sanitise(alloc: Global, text: &str, _limits: &Limits) -> Result<String, AllocError> {
         String::from_str(alloc, text)
     }
@@ -308,13 +200,7 @@ impl InputState for ButtonRow {
 }
 
 impl LimitedState for ButtonRow {
-    ghost KIND = { Kind.Button };
-
-    fn attribute_number(_text: &str) -> Option<Decimal> {
-        None
-    }
-
     fn defaults() -> Defaults {
-        Defaults::none()
+        Defaults::none(false)
     }
 }

@@ -5,9 +5,7 @@
 
 #![tactic(auto, unfolding(form_types::specs::TypeTable::row_of))]
 
-ghost use Rattle.std.specs.Prelude.{◌≡◌, ◌≤ℤ◌, ◌<ℤ◌, ℤ, pos, IfOk, IfSome, Some, None, string_bytes, unwrap_or};
-ghost use Rattle.form_types.specs.declared.kind.Kind.{Kind};
-ghost use Rattle.form_types.specs.TypeTable.{mode_of};
+ghost use Rattle.std.specs.Prelude.{◌≡◌, ◌≤ℤ◌, ℤ, pos, IfOk, IfSome, Some, None, string_bytes, unwrap_or};
 ghost use Rattle.form_decimal.specs.Nearest.{nearest_of};
 ghost use Rattle.form_states.specs.Range.{top_of, middle, up_to, raised_to, clamped, stepped, low_of, high_of, top_in, default_in, corrected_in, corrected_text, range_sanitised};
 ghost use Rattle.form_states.specs.Limits.{IsStep};
@@ -17,22 +15,11 @@ ghost use Rattle.form_states.specs.RangeLaws.{range_again};
 use crate::input_state::InputState;
 use crate::limits::{Defaults, LimitedState, Limits};
 use crate::whole::decimal_text;
-use form_decimal::{
-    Decimal, aligned, half_between, is_below, is_same, nearest_aligned, print, read_lenient,
-    read_valid,
-};
-use form_types::{Kind, Mode, RangeRow};
+use form_decimal::{Decimal, aligned, half_between, nearest_aligned, print, read_valid};
+use form_types::RangeRow;
 use std::alloc::{AllocError, Global};
 
 impl InputState for RangeRow {
-    const KIND: Kind = Kind::Range;
-
-    const MODE: Mode = Mode::Value;
-
-    ghost KIND = { Kind.Range };
-
-    ghost MODE = { mode_of Kind.Range };
-
     fn sanitise(alloc: Global, text: &str, limits: &Limits) -> Result<String, AllocError> {
         sanitised(alloc, text, limits)
     }
@@ -51,12 +38,6 @@ impl InputState for RangeRow {
 }
 
 impl LimitedState for RangeRow {
-    ghost KIND = { Kind.Range };
-
-    fn attribute_number(text: &str) -> Option<Decimal> {
-        read_lenient(text)
-    }
-
     fn defaults() -> Defaults {
         Defaults::from_ends(0, 100)
     }
@@ -83,7 +64,7 @@ fn kept_or_printed(
     ensures { IfOk result (λ s. string_bytes s ≡ corrected_text limits.now text.now (Some n)) }
 {
     let fixed = corrected(limits, n);
-    if is_same(n, fixed) {
+    if n == fixed {
         String::from_str(alloc, text)
     } else {
         print(alloc, fixed)
@@ -146,14 +127,14 @@ fn clamped(low: Decimal, top: Option<Decimal>, n: Decimal) -> Decimal
 fn raised_to(low: Decimal, n: Decimal) -> Decimal
     ensures { result ≡ raised_to low n }
 {
-    if is_below(n, low) { low } else { n }
+    if n < low { low } else { n }
 }
 
 fn up_to(top: Option<Decimal>, n: Decimal) -> Decimal
     ensures { result ≡ up_to top n }
 {
     match top {
-        Some(high) => { if is_below(high, n) { high } else { n } }
+        Some(high) => { if high < n { high } else { n } }
         None => n,
     }
 }
@@ -207,9 +188,5 @@ fn top_of(low: Decimal, high: Decimal) -> Option<Decimal>
     ensures value { result ≡ top_of low high }
     ensures above { IfSome result (λ h. low ≤ℤ h) }
 {
-    if is_below(high, low) {
-        None
-    } else {
-        Some(high)
-    }
+    if high < low { None } else { Some(high) }
 }

@@ -5,10 +5,9 @@
 
 ghost use Rattle.std.specs.Prelude.{◌≡◌};
 ghost use Rattle.form_types.specs.declared.kind.Kind.{Kind};
-ghost use Rattle.form_types.specs.TypeTable.{mode_of};
 ghost use Rattle.form_calendar.specs.Week.{week_number, week_text};
-ghost use Rattle.form_calendar.proofs.WeekTexts.{week_text_back};
-ghost use Rattle.form_states.specs.Numbers.{number_of};
+ghost use Rattle.form_calendar.proofs.Laws.{week_text_back};
+ghost use Rattle.form_states.specs.States.{number_of};
 ghost use Rattle.form_states.specs.NumberLaws.{whole_back};
 ghost use Rattle.form_states.specs.Laws.{kept_again};
 
@@ -17,18 +16,10 @@ use crate::limits::{Defaults, LimitedState, Limits};
 use crate::whole::{in_units, kept_if_number, whole_of};
 use form_calendar::{print_week, read_week};
 use form_decimal::Decimal;
-use form_types::{Kind, Mode, WeekRow};
+use form_types::WeekRow;
 use std::alloc::{AllocError, Global};
 
 impl InputState for WeekRow {
-    const KIND: Kind = Kind::Week;
-
-    const MODE: Mode = Mode::Value;
-
-    ghost KIND = { Kind.Week };
-
-    ghost MODE = { mode_of Kind.Week };
-
     fn sanitise(alloc: Global, text: &str, _limits: &Limits) -> Result<String, AllocError> {
         kept_if_number(alloc, number(text), text)
     }
@@ -50,12 +41,6 @@ impl InputState for WeekRow {
 }
 
 impl LimitedState for WeekRow {
-    ghost KIND = { Kind.Week };
-
-    fn attribute_number(text: &str) -> Option<Decimal> {
-        number(text)
-    }
-
     /// The default step base is the Monday before 1970-01-01, a Thursday.
     fn defaults() -> Defaults {
         Defaults::from_base(-259_200_000)

@@ -1,3 +1,4 @@
-pub mod StepLemmas
-pub mod LimitsLaws
+mod StepLemmas
+mod LimitsLaws
 mod Exactness
+pub mod Laws

@@ -1,2 +1,9 @@
+pub mod Attributes
+pub mod Disabling
+pub mod Elements
 pub mod Index
+pub mod Ownership
+pub mod RadioGroup
+pub mod Selects
 pub mod Tree
+pub mod Value

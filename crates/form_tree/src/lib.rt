@@ -4,6 +4,7 @@
 //! places, which agrees with the list by the tree's invariant and which no public clause names.
 #![tactic(auto)]
 
+mod attributes;
 mod node;
 #[cfg(test)]
 mod tests;

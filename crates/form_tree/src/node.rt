@@ -25,6 +25,69 @@ pub enum Tag {
     Other,
 }
 
+impl Tag {
+    ghost use Rattle.form_tree.specs.Elements.{is_form_tag, is_fieldset_tag, is_legend_tag, is_listed_tag, is_optgroup_tag, is_option_tag, is_select_tag, is_submittable_tag};
+
+    /// Whether it is a form element.
+    pub fn is_form(self) -> bool
+        ensures { result ≡ is_form_tag self }
+    {
+        matches!(self, Tag::Form)
+    }
+
+    /// Whether it is a fieldset element.
+    pub fn is_fieldset(self) -> bool
+        ensures { result ≡ is_fieldset_tag self }
+    {
+        matches!(self, Tag::Fieldset)
+    }
+
+    /// Whether it is a legend element.
+    pub fn is_legend(self) -> bool
+        ensures { result ≡ is_legend_tag self }
+    {
+        matches!(self, Tag::Legend)
+    }
+
+    /// Whether it is a select element.
+    pub fn is_select(self) -> bool
+        ensures { result ≡ is_select_tag self }
+    {
+        matches!(self, Tag::Select)
+    }
+
+    /// Whether it is an optgroup element.
+    pub fn is_optgroup(self) -> bool
+        ensures { result ≡ is_optgroup_tag self }
+    {
+        matches!(self, Tag::Optgroup)
+    }
+
+    /// Whether it is an option element.
+    pub fn is_option(self) -> bool
+        ensures { result ≡ is_option_tag self }
+    {
+        matches!(self, Tag::Choice)
+    }
+
+    /// Whether it is a listed element (HTML, "Categories").
+    pub fn is_listed(self) -> bool
+        ensures { result ≡ is_listed_tag self }
+    {
+        matches!(
+            self,
+            Tag::Button | Tag::Fieldset | Tag::Input | Tag::Select | Tag::Textarea
+        )
+    }
+
+    /// Whether it is a submittable element (HTML, "Categories").
+    pub fn is_submittable(self) -> bool
+        ensures { result ≡ is_submittable_tag self }
+    {
+        matches!(self, Tag::Button | Tag::Input | Tag::Select | Tag::Textarea)
+    }
+}
+
 /// An element as it was read: its parent by its place in the list of elements, none at the top.
 #[derive(Clone, Debug, Drop)]
 pub struct Raw {

@@ -4,6 +4,7 @@ ghost use Rattle.form_tree.specs.Tree.{IsTreeOfRaws};
 use crate::{Key, Raw, State, Tag, Tree};
 use form_text::{Sequence, Text};
 use std::alloc::{AllocError, Global};
+use std::process::Abort;
 use std::test::Fail;
 
 fn text(alloc: Global, text: &str) -> Result<Text, AllocError>
@@ -158,5 +159,83 @@ fn one_form_is_a_tree(rt: HostRuntime) -> Result<(), Fail> {
     assert_eq!(rt; tree.len(), 1);
     assert_eq!(rt; tree.key_at(0), Some(Key(1)));
     assert_eq!(rt; tree.tag(Key(1)), Some(Tag::Form));
+    Ok(())
+}
+
+// Sets an attribute of a tree's first element, or takes it away.
+fn set(tree: &mut Tree, rt: &impl Abort, name: &str, value: Option<String>) -> Result<(), Fail> {
+    assert!(rt; tree.place(Key(1)).is_some());
+    tree.set_attr(Key(1), name, value)?;
+    Ok(())
+}
+
+#[test]
+fn an_attribute_keeps_its_place_and_a_new_one_goes_last(rt: HostRuntime) -> Result<(), Fail> {
+    let alloc = rt.alloc();
+    let form = element(None, Tag::Form, Vec::new(alloc), text(alloc, "")?);
+    let mut tree = Tree::from_raw(alloc, vec![in alloc; form]?)?;
+    // A name, its new value or none, and then each attribute with its value.
+    let rows = [
+        ("id", Some("a"), "id=a;"),
+        ("method", Some("post"), "id=a;method=post;"),
+        ("id", Some("b"), "id=b;method=post;"),
+        ("name", None, "id=b;method=post;"),
+        ("id", None, "method=post;"),
+        ("id", Some(""), "method=post;id=;"),
+    ];
+    for (name, value, all) in rows {
+        let value = match value {
+            Some(value) => Some(String::from_str(alloc, value)?),
+            None => None,
+        };
+        set(&mut tree, &rt, name, value)?;
+        assert_eq!(rt; listed(alloc, &tree)?.as_str(), all);
+    }
+    Ok(())
+}
+
+// The attributes of the first element, each as `name=value;`.
+fn listed(alloc: Global, tree: &Tree) -> Result<String, AllocError> {
+    let mut all = String::new(alloc);
+    if let Some(attrs) = tree.attrs(Key(1)) {
+        for (name, value) in attrs {
+            all.push_str(name.as_str())?;
+            all.push_str("=")?;
+            all.push_str(value.as_str())?;
+            all.push_str(";")?;
+        }
+    }
+    Ok(all)
+}
+
+#[test]
+fn a_copy_is_equal_and_stands_alone(rt: HostRuntime) -> Result<(), Fail> {
+    let alloc = rt.alloc();
+    let form = element(None, Tag::Form, Vec::new(alloc), text(alloc, "")?);
+    let mut tree = Tree::from_raw(alloc, vec![in alloc; form]?)?;
+    set(&mut tree, &rt, "id", Some(String::from_str(alloc, "a")?))?;
+    let copy = tree.copy()?;
+    set(&mut tree, &rt, "id", None)?;
+    assert_eq!(rt; copy.len(), 1);
+    assert_eq!(rt; copy.key_at(0), Some(Key(1)));
+    assert_eq!(rt; copy.tag(Key(1)), Some(Tag::Form));
+    assert_eq!(rt; copy.attr(Key(1), "id"), Some("a"));
+    assert_eq!(rt; tree.attr(Key(1), "id"), None);
+    Ok(())
+}
+
+#[test]
+fn a_text_and_a_list_of_attributes_change_places(rt: HostRuntime) -> Result<(), Fail> {
+    let alloc = rt.alloc();
+    let mut tree = Tree::from_raw(alloc, page(alloc)?)?;
+    assert!(rt; tree.place(Key(4)).is_some());
+    tree.set_text(Key(4), String::from_str(alloc, "z")?);
+    assert_eq!(rt; tree.text(Key(4)), Some("z"));
+    assert_eq!(rt; tree.text(Key(3)), Some(""));
+    assert!(rt; tree.place(Key(3)).is_some());
+    let old = tree.swap_attrs(Key(3), Sequence::new(alloc));
+    assert_eq!(rt; tree.attr_count(Key(3)), Some(0));
+    assert_eq!(rt; tree.attr_count(Key(1)), Some(2));
+    assert_eq!(rt; old.as_slice().len(), 2);
     Ok(())
 }

@@ -1,17 +1,21 @@
-ghost use Rattle.std.specs.Prelude.{◌≡◌, ◌+◌, ◌<◌, ◌^◌, length, map, IfOk, IfSome, IsSome, Some, vec_len};
+ghost use Rattle.std.specs.Prelude.{◌≡◌, ◌+◌, ◌<◌, ◌^◌, length, map, IfOk, IfSome, IsSome, OnErr, OnOk, Some, string_bytes, vec_len};
 ghost use Rattle.std.specs.Option.{option_copied, option_map};
-ghost use Rattle.form_tree.specs.Tree.{IsTree, IsTreeOfRaws, first_key, at_key, attr_in, attr_of, attrs_of, key_at, node_of_raw, nodes_of_raws, tree_of_raws, parent_of, place_of, state_of, tag_of, text_of, with_state};
+ghost use Rattle.form_tree.specs.Tree.{IsTree, IsTreeOfRaws, NamesDiffer, first_key, at_key, attr_in, attr_of, attrs_of, key_at, node_of_raw, nodes_of_raws, tree_of_raws, parent_of, place_of, state_of, tag_of, text_of, with_state};
+ghost use Rattle.form_tree.specs.Attributes.{with_attr, with_attrs, with_text};
 ghost use Rattle.form_tree.specs.Index.{indexed, first_place};
 ghost use Rattle.form_tree.specs.declared.node.Key.{Key};
 
+use crate::attributes::put_attr;
 use crate::node::{Key, Node, Raw, State, Tag};
 use form_text::{Sequence, Text};
 use std::alloc::{AllocError, Global};
 use std::marker::Model;
+use std::mem;
 
 /// The elements of a page, in tree order.
 #[derive(Debug, Drop)]
 pub struct Tree {
+    alloc: Global,
     nodes: Vec<Node>,
     // The place of each key, by its number.
     places: Vec<Option<usize>>,
@@ -44,6 +48,7 @@ impl Tree {
         let places = first_index(alloc, count)?;
         let nodes = nodes_of(alloc, raws)?;
         Ok(Tree {
+            alloc,
             nodes,
             places,
             used: count as u32,
@@ -159,6 +164,62 @@ impl Tree {
         node.state = state;
     }
 
+    /// Puts a text in place of that of an element that is there; the old one is dropped.
+    pub fn set_text(&mut self, key: Key, text: String)
+        requires { IsSome (place_of self.old.nodes key) }
+        ensures { self.new ≡ record self.old { nodes = with_text self.old.nodes key (string_bytes text) } }
+    {
+        let place = self.place_in(key);
+        let node = &mut self.nodes[place];
+        node.text = Text::from_string(text);
+    }
+
+    /// Puts a list of attributes, whose names differ, in place of that of an element that is there,
+    /// and gives the old one back.
+    pub fn swap_attrs(&mut self, key: Key, attrs: Sequence<(Text, Text)>) -> Sequence<(Text, Text)>
+        requires there { IsSome (place_of self.old.nodes key) }
+        requires names { NamesDiffer attrs }
+        ensures new { self.new ≡ record self.old { nodes = with_attrs self.old.nodes key attrs } }
+        ensures old { attrs_of self.old.nodes key ≡ Some result }
+    {
+        let place = self.place_in(key);
+        let node = &mut self.nodes[place];
+        mem::replace(&mut node.attrs, attrs)
+    }
+
+    /// Sets an attribute of an element that is there, or takes it away where there is no value. An
+    /// attribute that the element has keeps its place, a new one goes last. Without memory the tree
+    /// stays as it was.
+    pub fn set_attr(
+        &mut self,
+        key: Key,
+        name: &str,
+        value: Option<String>,
+    ) -> Result<(), AllocError>
+        requires { IsSome (place_of self.old.nodes key) }
+        ensures ok { OnOk result (self.new ≡ record self.old {
+          nodes = with_attr self.old.nodes key name.now (option_map string_bytes value);
+        }) }
+        ensures err { OnErr result (self.new ≡ self.old) }
+    {
+        let place = self.place_in(key);
+        let node = &mut self.nodes[place];
+        put_attr(self.alloc, &mut node.attrs, name, value)?;
+        Ok(())
+    }
+
+    /// A tree that is equal to this one, with the same keys.
+    pub fn copy(&self) -> Result<Tree, AllocError>
+        ensures { IfOk result (λ copy. copy ≡ self.now) }
+    {
+        Ok(Tree {
+            alloc: self.alloc,
+            nodes: copy_of_nodes(&self.nodes)?,
+            places: copy_of_places(&self.places)?,
+            used: self.used,
+        })
+    }
+
     // The one reader that the others stand on.
     fn node(&self, key: Key) -> Option<&Node>
         ensures { option_copied result ≡ at_key self.now.nodes key }
@@ -176,6 +237,18 @@ impl Tree {
     {
         self.place(key).unwrap()
     }
+}
+
+fn copy_of_nodes(nodes: &Vec<Node>) -> Result<Vec<Node>, AllocError>
+    ensures { IfOk result (λ copy. copy.items ≡ nodes.now.items) }
+{
+    nodes.clone()
+}
+
+fn copy_of_places(places: &Vec<Option<usize>>) -> Result<Vec<Option<usize>>, AllocError>
+    ensures { IfOk result (λ copy. copy.items ≡ places.now.items) }
+{
+    places.clone()
 }
 
 // The nodes of the raws.

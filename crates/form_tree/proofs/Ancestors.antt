@@ -17,6 +17,7 @@ use Rattle.form_tree.specs.Disabling.{disables_through, disabling_above, disabli
 use Rattle.form_tree.specs.Elements.{has_attr, is_form, passes}
 use Rattle.form_tree.specs.Ownership.{above, ancestors, nearest_form}
 use Rattle.form_tree.specs.Tree.{Nodes, IsTree, at_key, attr_in, attr_of, is_key, key_at, parent_of, parent_places, place_in, place_of, shape_of}
+use Rattle.form_tree.proofs.Keys.{found_key}
 use Rattle.form_tree.proofs.Places.{at_key_place, keys_apart, placed_below, place_in_shape}
 
 -- elements with other keys are passed over
@@ -63,12 +64,6 @@ found_split p (x ∷ xs) n found = go (found_split p xs n) (p x) refl found
     go : (find p xs ≡ Some n → Split p xs n) → (b : Bool) → p x ≡ b → cond b (Some x) (find p xs) ≡ Some n → Split p (x ∷ xs) n
     go more true e h = let same = same_Some x n h in record { at = 0; below = omega arith; parts = ap (λ y. y ∷ xs) same; hit = rw (← same) e; read = λ d. same }
     go more false e h = let rest = more h in record { at = suc rest.at; below = omega (arith, rest.below); parts = ap (λ ys. x ∷ ys) rest.parts; hit = rest.hit; read = rest.read }
-
--- what was found has the key
-pub found_key : (ns : Nodes) (k : Key) (n : Node) → at_key ns k ≡ Some n → n.key ≡ k
-found_key ns k n found =
-    let same : k.0 ≡ n.key.0 = eqb-true _ _ (found_split (is_key k) ns n found).hit in
-    ap (λ (number : ℕ). record { 0 = number }) (sym same)
 
 -- an element in the shape
 abbrev pair : Node → Key × Option Key

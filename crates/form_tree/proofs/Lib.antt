@@ -1,6 +1,9 @@
 pub mod Ancestors
 pub mod AttributeLaws
 pub mod FirstKeys
+pub mod GroupLaws
+pub mod Images
+pub mod Keys
 pub mod Laws
 pub mod Places
 pub mod Tested

@@ -14,7 +14,7 @@ use Rattle.std.proofs.lemmas.Slice.Eq.{bytes_eq-Decides}
 use Rattle.form_tree.specs.Tree.{NamesDiffer, attr_in, is_named}
 use Rattle.form_tree.specs.Attributes.{attrs_with}
 use Rattle.form_tree.proofs.Writes.{set_where}
-use Rattle.form_text.proofs.PlaceLaws.{position-cons}
+use Rattle.form_text.proofs.Laws.{position-cons}
 
 abbrev Attr : Type 0
 Attr = List ℕ × List ℕ

@@ -247,15 +247,15 @@ mod tests {
         ("button", Kind::Button, Mode::Default, "", None, false),
     ];
 
-    fn constant<R: Row>() -> &'static str {
-        R::KEYWORD
+    fn is_keyword<R: Row>(keyword: &str) -> bool {
+        R::KEYWORD == keyword
     }
 
     #[test]
     fn the_table(rt: HostRuntime) {
         for (keyword, kind, mode, listed, numbers, blocking) in ROWS {
             assert!(rt; Kind::of(Some(keyword)) == Ok(kind), "{keyword}");
-            assert_eq!(rt; with_state!(kind, constant, ()), keyword);
+            assert!(rt; with_state!(kind, is_keyword, (keyword)), "{keyword}");
             assert!(rt; mode_of(kind) == mode, "{keyword}");
             for (attr, letter) in ATTRS {
                 assert_eq!(rt; applies(kind, attr), listed.contains(letter), "{keyword}");

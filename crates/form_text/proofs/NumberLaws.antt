@@ -24,13 +24,9 @@ unwrap_kept (d ∷ digits) = grind (arith, nat_tests)
 push_kept : (value digit number : ℕ) → number ≡ min value 4294967295 → min (min (number * 10) 4294967295 + digit) 4294967295 ≡ min (value * 10 + digit) 4294967295
 push_kept value digit number before = omega arith
 
--- a byte that is a digit
-pub digit_true : (c : ℕ) → is_ascii_digit c ≡ true → (digit_value c < 10) × (digit_value c ≡ c - 48)
-digit_true c h = (grind (arith, nat_tests), grind (arith, nat_tests))
-
--- a byte that has the value of one
-pub true_digit : (c : ℕ) → digit_value c < 10 → (is_ascii_digit c ≡ true) × (digit_value c ≡ c - 48) × (48 ≤ c) × (c < 58)
-true_digit c h = (grind (arith, nat_tests), grind (arith, nat_tests), grind (arith, nat_tests), grind (arith, nat_tests))
+-- the value of a digit
+digit_is : (byte : ℕ) → is_ascii_digit byte ≡ true → byte - 48 ≡ digit_value byte
+digit_is byte digit = grind (arith, nat_tests)
 
 -- each digit is read behind those before it
 pub kept_more : (text : List ℕ) (i byte number : ℕ) → i < length text → byte ≡ get_or text i 0 → is_ascii_digit byte ≡ true
@@ -40,7 +36,7 @@ kept_more text i byte number below is digit before =
     let long : length (take (i + 1) text) ≡ i + 1 = length-take-le (i + 1) text (omega arith) in
     let some : eqb (length (take (i + 1) text)) 0 ≡ false = ne_eqb _ 0 (λ e. omega arith) in
     let value : digits_value 10 (take (i + 1) text) ≡ digits_value 10 (take i text) * 10 + (byte - 48) =
-    digits_value_more 10 text i below ∙ ap (λ d. digits_value 10 (take i text) * 10 + d) (ap digit_value (sym is) ∙ (digit_true byte digit).1) in
+    digits_value_more 10 text i below ∙ ap (λ d. digits_value 10 (take i text) * 10 + d) (ap digit_value (sym is) ∙ sym (digit_is byte digit)) in
     let now : number ≡ min (digits_value 10 (take i text)) 4294967295 = before ∙ unwrap_kept (take i text) in
     rw (some, value) (ap (λ (n : ℕ). Some n) (push_kept _ _ _ now))
 

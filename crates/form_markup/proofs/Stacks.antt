@@ -1,0 +1,48 @@
+-- The open elements, and an element's text.
+use Rattle.std.proofs.Common.{◌≡◌, ℕ, zero, suc, ◌<◌, ◌≤◌, List, [], ◌∷◌, length, get_or, set, map, reverse, Bool, true, false, ◌||◌, refl, sym, ap, ◌∙◌, arith}
+use Rattle.std.specs.List.{list_any}
+use Rattle.std.proofs.lemmas.List.Folds.{list_any-append}
+use Rattle.std.proofs.lemmas.List.Sorted.{list_any-IsPermutation, IsPermutation-reverse}
+use Rattle.form_tree.specs.declared.node.Raw.{Raw}
+use Rattle.form_tree.specs.declared.node.Tag.{Tag}
+use Rattle.form_markup.specs.Faults.{is_tag, is_inside, tags_round}
+use Rattle.form_markup.specs.Machine.{outers_of, levels_of, with_text}
+use Rattle.form_markup.specs.declared.machine.Open.{Open}
+
+pub length_outers : (s : List Open) → length (outers_of (levels_of s)) ≡ length s
+length_outers [] = refl
+length_outers (o ∷ os) = ap suc (length_outers os)
+
+pub any_tags : (wanted : Tag) (s : List Open) → list_any (λ o. is_tag wanted o.tag) s ≡ list_any (is_tag wanted) (map (λ outer. outer.tag) (outers_of (levels_of s)))
+any_tags wanted [] = refl
+any_tags wanted (o ∷ os) = ap (λ b. is_tag wanted o.tag || b) (any_tags wanted os)
+
+pub inside_round : (wanted : Tag) (around : List Tag) (s : List Open) → (list_any (λ o. is_tag wanted o.tag) (reverse s) || list_any (is_tag wanted) around) ≡ is_inside wanted (tags_round around (outers_of (levels_of s)))
+inside_round wanted around s =
+    ap (λ b. b || list_any (is_tag wanted) around) (sym (list_any-IsPermutation (λ o. is_tag wanted o.tag) s (reverse s) (IsPermutation-reverse s)) ∙ any_tags wanted s)
+    ∙ (ap (λ b. list_any (is_tag wanted) (map (λ outer. outer.tag) (outers_of (levels_of s))) || b) (list_any-IsPermutation (is_tag wanted) around (reverse around) (IsPermutation-reverse around))
+    ∙ sym (list_any-append (is_tag wanted) (map (λ outer. outer.tag) (outers_of (levels_of s))) (reverse around)))
+
+pub text_within : (i : ℕ) (text : List ℕ) (xs : List Raw) (r : Raw) → r ≡ get_or xs i r → i < length xs → set xs i (record r { text = text }) ≡ with_text i text xs
+text_within i text [] r e lt = absurd (omega arith)
+text_within zero text (x ∷ xs) r e lt = ap (λ (y : Raw). (let z : Raw = record y { text = text } in z) ∷ xs) e
+text_within (suc i) text (x ∷ xs) r e lt = ap (λ zs. x ∷ zs) (text_within i text xs r e (omega arith))
+
+pub text_past : (i : ℕ) (text : List ℕ) (xs : List Raw) → length xs ≤ i → xs ≡ with_text i text xs
+text_past i text [] ge = refl
+text_past zero text (x ∷ xs) ge = absurd (omega arith)
+text_past (suc i) text (x ∷ xs) ge = ap (λ zs. x ∷ zs) (text_past i text xs (omega arith))
+
+pub length_levels : (s : List Open) → length (levels_of s) ≡ length s
+length_levels [] = refl
+length_levels (o ∷ os) = ap suc (length_levels os)
+
+pub inside_then : (wanted : Tag) (around : List Tag) (s : List Open) (r : Bool) → r ≡ list_any (λ o. is_tag wanted o.tag) (reverse s) → r ≡ true → r ≡ is_inside wanted (tags_round around (outers_of (levels_of s)))
+inside_then wanted around s r e t =
+    let one : list_any (λ o. is_tag wanted o.tag) (reverse s) ≡ true = sym e ∙ t in
+    t ∙ (sym (ap (λ b. b || list_any (is_tag wanted) around) one) ∙ inside_round wanted around s)
+
+pub inside_else : (wanted : Tag) (around : List Tag) (s : List Open) (r q : Bool) → r ≡ list_any (λ o. is_tag wanted o.tag) (reverse s) → r ≡ false → q ≡ list_any (is_tag wanted) around → q ≡ is_inside wanted (tags_round around (outers_of (levels_of s)))
+inside_else wanted around s r q e f h =
+    let none : list_any (λ o. is_tag wanted o.tag) (reverse s) ≡ false = sym e ∙ f in
+    h ∙ (sym (ap (λ b. b || list_any (is_tag wanted) around) none) ∙ inside_round wanted around s)

@@ -1,0 +1,79 @@
+ghost use Rattle.std.specs.Prelude.{◌≡◌};
+ghost use Rattle.form_markup.specs.Spelling.{page_fault};
+ghost use Rattle.form_markup.specs.declared.fault.Stop.TheVariants.{Memory};
+
+use std::alloc::{AllocError, AllocFailed};
+use thiserror::Error;
+
+/// What is wrong with a piece.
+#[derive(Clone, Copy)]
+pub enum Fault {
+    Lexical,
+    Limit,
+    Element,
+    Email,
+    Nesting,
+}
+
+/// Why the reading of a piece stopped.
+#[derive(Drop)]
+pub enum Stop {
+    Memory,
+    At(Fault),
+}
+
+impl From<AllocError> for Stop {
+    ghost from_gives = { λ _ e. e ≡ Memory };
+
+    fn from(_e: AllocError) -> Stop {
+        Stop::Memory
+    }
+}
+
+impl<T: Drop> From<AllocFailed<T>> for Stop {
+    ghost from_gives = { λ _ e. e ≡ Memory };
+
+    fn from(_e: AllocFailed<T>) -> Stop {
+        Stop::Memory
+    }
+}
+
+/// Why a text is refused: the first piece from the left that has a fault decides, and of one piece
+/// the first kind of this order. The number is the byte of the text, from 0, where that piece
+/// begins, or the text's length where an element is left open at its end.
+#[derive(Clone, Copy, Debug, PartialEq, Eq, Error)]
+pub enum PageFault {
+    /// No piece of the grammar begins here.
+    #[error("no markup that is read begins at byte {0}")]
+    Lexical(usize),
+    /// A tag has too many attributes or too long a value, or its element is one too many or lies
+    /// too deep.
+    #[error("a limit is passed at byte {0}")]
+    Limit(usize),
+    /// An element that is not read.
+    #[error("an element that is not read stands at byte {0}")]
+    Element(usize),
+    /// An input in the state email.
+    #[error("an input of the type `email` stands at byte {0}")]
+    Email(usize),
+    /// A tag that may not stand here, or an element that is left open.
+    #[error("a tag may not stand at byte {0}")]
+    Nesting(usize),
+    /// Memory was refused. This may stand in place of any answer.
+    #[error("no memory")]
+    Memory,
+}
+
+/// The fault of a text, of a piece that begins at a place.
+pub fn fault_at(stop: Stop, place: usize) -> PageFault
+    ensures { result ≡ page_fault stop place }
+{
+    match stop {
+        Stop::Memory => PageFault::Memory,
+        Stop::At(Fault::Lexical) => PageFault::Lexical(place),
+        Stop::At(Fault::Limit) => PageFault::Limit(place),
+        Stop::At(Fault::Element) => PageFault::Element(place),
+        Stop::At(Fault::Email) => PageFault::Email(place),
+        Stop::At(Fault::Nesting) => PageFault::Nesting(place),
+    }
+}

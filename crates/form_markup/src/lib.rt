@@ -1,0 +1,37 @@
+//! The page reader: a text of strict markup, read into the list of its elements.
+//!
+//! The elements are given exactly where the text spells them, and else the first fault from the left
+//! with its kind and its place. The rules stand in docs/profile/markup.md and as definitions in
+//! `specs/`: pieces and how a text is cut into them (`Pieces`), what contents are and which elements
+//! they have (`Contents`), what is a fault (`Faults`), and what a text spells (`Spelling`).
+#![tactic(auto)]
+
+mod attributes;
+mod characters;
+mod cursor;
+mod fault;
+mod machine;
+mod names;
+mod page;
+mod piece;
+mod raws;
+mod reading;
+mod references;
+mod stack;
+#[cfg(test)]
+mod tests;
+
+pub use fault::PageFault;
+pub use page::{one_answer, read, read_in};
+
+/// The most elements that a text may have.
+pub const MOST_ELEMENTS: usize = 65_536;
+
+/// The greatest depth of an element; one at the top lies at depth 1.
+pub const MOST_DEPTH: usize = 256;
+
+/// The most attributes of a tag, counted as they are written.
+pub const MOST_ATTRIBUTES: usize = 64;
+
+/// The most bytes of the value of an attribute, decoded.
+pub const MOST_VALUE: usize = 1_048_576;

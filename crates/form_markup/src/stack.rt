@@ -1,0 +1,69 @@
+ghost use Rattle.std.specs.Prelude.{List, ◌≡◌, [], ◌∷◌, OnOk, MatchOption, reverse, length, option_copied, option_map};
+
+use std::alloc::{AllocError, Global};
+use std::marker::Model;
+
+/// A list whose first element is the last that was pushed.
+#[derive(Drop)]
+pub struct Stack<T> {
+    items: Vec<T>,
+}
+
+impl<T> Model for Stack<T> {
+    ghost use Rattle.std.specs.Prelude.{List, reverse};
+    ghost use Rattle.std.specs.Coded.{coded_list};
+
+    ghost Value = { List T };
+
+    ghost coded = { coded_list T.code };
+
+    ghost view = { λ s. reverse s.items.items };
+}
+
+impl<T> Stack<T> {
+    pub fn new(alloc: Global) -> Stack<T>
+        ensures { result ≡ [] }
+    {
+        Stack {
+            items: Vec::new(alloc),
+        }
+    }
+}
+
+impl<T: Drop> Stack<T> {
+    pub fn push(&mut self, item: T) -> Result<(), AllocError>
+        ensures { OnOk result (self.new ≡ item ∷ self.old) }
+    {
+        self.items.push(item)?;
+        Ok(())
+    }
+
+    pub fn pop(&mut self) -> Option<T>
+        ensures { MatchOption result ((self.old ≡ []) × (self.new ≡ []))
+            (λ item. self.old ≡ item ∷ self.new) }
+    {
+        self.items.pop()
+    }
+}
+
+impl<T> Stack<T> {
+    pub fn len(&self) -> usize
+        ensures { result ≡ length self.now }
+    {
+        self.items.len()
+    }
+
+    /// The elements, the first that was pushed first.
+    pub fn as_slice(&self) -> &[T]
+        ensures { result.now ≡ reverse self.now }
+    {
+        self.items.as_slice()
+    }
+
+    pub fn top(&self) -> Option<&T>
+        ensures { MatchOption result (self.now ≡ [])
+            (λ item. (rest : List T) × (self.now ≡ item.now ∷ rest)) }
+    {
+        self.items.last()
+    }
+}

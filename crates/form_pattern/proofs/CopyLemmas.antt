@@ -1,0 +1,87 @@
+-- A tree of copies matches what a quantifier says.
+use Rattle.std.proofs.Common.{◌≡◌, ℕ, zero, suc, ◌+◌, ◌-◌, ◌≤◌, Bool, true, false, inl, inr, List, Option, Some, None, refl, sym, subst, arith, zero-add, suc-add}
+use Rattle.form_pattern.specs.Matching.{Turns, IsUpTo, Rounds, last, more, Holds, Matches}
+use Rattle.form_pattern.specs.Pieces.{Tree, many_tree, copies, up_to, at_least, repeated}
+
+abbrev pub Pairs : Type 1
+Pairs = ℕ → ℕ → Type 0
+
+module _ (R : Pairs) where
+  one_more : (n i j : ℕ) → (e : j ≡ i) → Turns n R j j → Turns n R i j
+  one_more n i j e t = subst (λ k. Turns n R k j) e t
+
+  turns_join : (n m i k j : ℕ) → Turns n R i k → Turns m R k j → Turns (n + m) R i j
+  turns_join zero m i k j e t = rw zero-add (subst (λ p. Turns m R p j) e t)
+  turns_join (suc n) m i k j h t = rw suc-add (h.0, h.1, turns_join n m h.0 k j h.2 t)
+
+  turns_split : (n m i j : ℕ) → Turns (n + m) R i j → (k : ℕ) × Turns n R i k × Turns m R k j
+  turns_split zero m i j t = (i, refl, rw zero-add at t)
+  turns_split (suc n) m i j t = let h : (k : ℕ) × R i k × Turns (n + m) R k j = rw suc-add at t in let rest = turns_split n m h.0 j h.2 in (rest.0, (h.0, h.1, rest.1), rest.2)
+
+  rounds_turns : (j i : ℕ) → Rounds R j i → (n : ℕ) × Turns (suc n) R i j
+  rounds_turns j i (last _ r) = (zero, (j, r, refl))
+  rounds_turns j i (more _ k r rest) = let t = rounds_turns j k rest in (suc t.0, (k, r, t.1))
+
+  turns_rounds : (n i j : ℕ) → Turns (suc n) R i j → Rounds R j i
+  turns_rounds zero i j t = last i (subst (R i) (sym t.2) t.1)
+  turns_rounds (suc n) i j t = more i t.0 t.1 (turns_rounds n t.0 j t.2)
+
+pub turns_map : (R S : Pairs) → ((i j : ℕ) → R i j → S i j) → (n i j : ℕ) → Turns n R i j → Turns n S i j
+turns_map R S f zero i j t = t
+turns_map R S f (suc n) i j t = (t.0, f i t.0 t.1, turns_map R S f n t.0 j t.2)
+
+module _ (has : ℕ → ℕ → Bool) (s : List ℕ) (a : Tree) where
+  copies_to : (b : Tree) (n i j : ℕ) → Matches has s (copies n a b) i j → (k : ℕ) × Turns n (Matches has s a) i k × Matches has s b k j
+  copies_to b zero i j m = (i, refl, m)
+  copies_to b (suc n) i j m = let rest = copies_to b n m.0 j m.2 in (rest.0, (m.0, m.1, rest.1), rest.2)
+
+  copies_from : (b : Tree) (n i k j : ℕ) → Turns n (Matches has s a) i k → Matches has s b k j → Matches has s (copies n a b) i j
+  copies_from b zero i k j e m = subst (λ p. Matches has s b p j) e m
+  copies_from b (suc n) i k j t m = (t.0, t.1, copies_from b n t.0 k j t.2 m)
+
+  up_to_to : (n i j : ℕ) → Matches has s (up_to n a) i j → (m : ℕ) × (m ≤ n) × Turns m (Matches has s a) i j
+  up_to_to zero i j m = (zero, omega arith, m)
+  up_to_to (suc n) i j (inl h) = let rest = up_to_to n h.0 j h.2 in (suc rest.0, omega (arith, rest.1), (h.0, h.1, rest.2))
+  up_to_to (suc n) i j (inr h) = (zero, omega arith, h)
+
+  up_to_from : (n m i j : ℕ) → m ≤ n → Turns m (Matches has s a) i j → Matches has s (up_to n a) i j
+  up_to_from zero zero i j le t = t
+  up_to_from zero (suc m) i j le t = absurd (omega arith)
+  up_to_from (suc n) zero i j le t = inr t
+  up_to_from (suc n) (suc m) i j le t = inl (t.0, t.1, up_to_from n m t.0 j (omega arith) t.2)
+
+  at_least_to : (low i j : ℕ) → Matches has s (at_least low a) i j → (n : ℕ) × (low ≤ n) × Turns n (Matches has s a) i j
+  at_least_to zero i j (inl r) = let t = rounds_turns (Matches has s a) j i r in (suc t.0, omega arith, t.1)
+  at_least_to zero i j (inr e) = (zero, omega arith, e)
+  at_least_to (suc low) i j m =
+      let h = copies_to (many_tree a) low i j m in
+      let t = rounds_turns (Matches has s a) j h.0 h.2 in
+      (low + suc t.0, omega arith, turns_join (Matches has s a) low (suc t.0) i h.0 j h.1 t.1)
+
+  at_least_from : (low n i j : ℕ) → low ≤ n → Turns n (Matches has s a) i j → Matches has s (at_least low a) i j
+  at_least_from zero zero i j le t = inr t
+  at_least_from zero (suc n) i j le t = inl (turns_rounds (Matches has s a) n i j t)
+  at_least_from (suc low) n i j le t =
+      let size : n ≡ low + suc (n - suc low) = omega arith in
+      let h = turns_split (Matches has s a) low (suc (n - suc low)) i j (subst (λ m. Turns m (Matches has s a) i j) size t) in
+      copies_from (many_tree a) low i h.0 j h.1 (turns_rounds (Matches has s a) (n - suc low) h.0 j h.2)
+
+  pub repeated_to : (low : ℕ) (high : Option ℕ) (i j : ℕ) → IsUpTo low high → Matches has s (repeated low high a) i j → (n : ℕ) × (low ≤ n) × IsUpTo n high × Turns n (Matches has s a) i j
+  unfolding repeated
+  repeated_to low None i j fits m = let h = at_least_to low i j m in (h.0, h.1, tt, h.2)
+  repeated_to low (Some high) i j fits m =
+      let h = copies_to (up_to (high - low) a) low i j m in
+      let t = up_to_to (high - low) h.0 j h.2 in
+      (low + t.0, omega arith, omega (arith, t.1), turns_join (Matches has s a) low t.0 i h.0 j h.1 t.2)
+
+  pub repeated_from : (low : ℕ) (high : Option ℕ) (n i j : ℕ) → low ≤ n → IsUpTo n high → Turns n (Matches has s a) i j → Matches has s (repeated low high a) i j
+  unfolding repeated
+  repeated_from low None n i j le up t = at_least_from low n i j le t
+  repeated_from low (Some high) n i j le up t =
+      let size : n ≡ low + (n - low) = omega arith in
+      let h = turns_split (Matches has s a) low (n - low) i j (subst (λ m. Turns m (Matches has s a) i j) size t) in
+      copies_from (up_to (high - low) a) low i h.0 j h.1 (up_to_from (high - low) (n - low) h.0 j (omega arith) h.2)
+
+pub holds_map : (absent : Bool) (A B : Type 0) → (A → B) → (B → A) → Holds absent A → Holds absent B
+holds_map true A B f g h = λ b. h (g b)
+holds_map false A B f g h = f h

@@ -1,0 +1,16 @@
+pub mod Characters
+pub mod NumberReading
+pub mod Reading
+pub mod Spelling
+pub mod Membership
+pub mod Pattern
+pub mod Grammar
+pub mod Grouping
+pub mod Trees
+pub mod Pieces
+pub mod Matching
+pub mod Steps
+pub mod Tables
+pub mod Compiled
+pub mod Likeness
+pub mod Deciding

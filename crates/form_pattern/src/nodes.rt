@@ -1,0 +1,139 @@
+//! Patterns without quantifiers, as trees.
+ghost use Rattle.std.specs.Prelude.{◌≡◌, ◌-◌, IfOk};
+ghost use Rattle.form_pattern.specs.Pieces.{tree_of, next_tree, either_tree, many_tree, copies, up_to, repeated};
+
+use std::alloc::{AllocError, Global};
+
+/// What a node can do at a place of a value.
+#[derive(Debug, Clone, Copy)]
+pub struct Seen {
+    /// It matches the empty stretch there.
+    pub empty: bool,
+    /// Through it, by a character at least, the end can be reached.
+    pub on: bool,
+}
+
+/// A pattern without quantifiers. While a value is read, it also holds what is known of the place
+/// that was read last.
+#[derive(Debug, Drop)]
+pub enum Node {
+    Nothing,
+    Start,
+    Finish,
+    /// The characters of the token that has so many tokens behind it.
+    One(usize),
+    /// One behind the other, and what the second can do.
+    Next(Box<Node>, Box<Node>, Seen),
+    Either(Box<Node>, Box<Node>),
+    /// One time or more, and whether a round, by a character at least, leads to the end.
+    Many(Box<Node>, bool),
+    /// A lookahead; with true for `(?!`.
+    Ahead(bool, Box<Node>),
+}
+
+pub fn next(alloc: Global, a: Node, b: Node) -> Result<Node, AllocError>
+    ensures { IfOk result (λ n. tree_of n ≡ next_tree (tree_of a) (tree_of b)) }
+{
+    let unseen = Seen {
+        empty: false,
+        on: false,
+    };
+    Ok(Node::Next(
+        Box::new(alloc, a)?,
+        Box::new(alloc, b)?,
+        unseen,
+    ))
+}
+
+pub fn either(alloc: Global, a: Node, b: Node) -> Result<Node, AllocError>
+    ensures { IfOk result (λ n. tree_of n ≡ either_tree (tree_of a) (tree_of b)) }
+{
+    Ok(Node::Either(Box::new(alloc, a)?, Box::new(alloc, b)?))
+}
+
+fn many(alloc: Global, a: Node) -> Result<Node, AllocError>
+    ensures { IfOk result (λ n. tree_of n ≡ many_tree (tree_of a)) }
+{
+    Ok(Node::Many(Box::new(alloc, a)?, false))
+}
+
+// The same tree once more.
+fn copy(alloc: Global, node: &Node) -> Result<Node, AllocError>
+    ensures { IfOk result (λ n. tree_of n ≡ tree_of node.now) }
+{
+    match node {
+        Node::Nothing => Ok(Node::Nothing),
+        Node::Start => Ok(Node::Start),
+        Node::Finish => Ok(Node::Finish),
+        Node::One(left) => Ok(Node::One(*left)),
+        Node::Next(a, b, behind) => {
+            let a = copy(alloc, a)?;
+            let b = copy(alloc, b)?;
+            Ok(Node::Next(
+                Box::new(alloc, a)?,
+                Box::new(alloc, b)?,
+                *behind,
+            ))
+        }
+        Node::Either(a, b) => {
+            let a = copy(alloc, a)?;
+            let b = copy(alloc, b)?;
+            Ok(Node::Either(Box::new(alloc, a)?, Box::new(alloc, b)?))
+        }
+        Node::Many(a, round) => {
+            let a = copy(alloc, a)?;
+            Ok(Node::Many(Box::new(alloc, a)?, *round))
+        }
+        Node::Ahead(absent, a) => {
+            let a = copy(alloc, a)?;
+            Ok(Node::Ahead(*absent, Box::new(alloc, a)?))
+        }
+    }
+}
+
+// A number of copies of a tree, and then another.
+fn copies(alloc: Global, count: u32, node: &Node, then: Node) -> Result<Node, AllocError>
+    ensures { IfOk result (λ n. tree_of n ≡ copies count (tree_of node.now) (tree_of then)) }
+{
+    let mut all = then;
+    for _ in 0..count {
+        let one = copy(alloc, node)?;
+        all = next(alloc, one, all)?;
+    }
+    Ok(all)
+}
+
+// Up to a number of copies of a tree.
+fn up_to(alloc: Global, count: u32, node: &Node) -> Result<Node, AllocError>
+    ensures { IfOk result (λ n. tree_of n ≡ up_to count (tree_of node.now)) }
+{
+    let mut all = Node::Nothing;
+    for _ in 0..count {
+        let one = copy(alloc, node)?;
+        let some = next(alloc, one, all)?;
+        all = either(alloc, some, Node::Nothing)?;
+    }
+    Ok(all)
+}
+
+/// A tree with a quantifier.
+#[tactic(auto, unfolding(crate::specs::Pieces::repeated))]
+pub fn repeated(alloc: Global, low: u32, high: Option<u32>, node: Node) -> Result<Node, AllocError>
+    ensures { IfOk result (λ n. tree_of n ≡ repeated low high (tree_of node)) }
+{
+    match high {
+        Some(high) => {
+            let rest = up_to(alloc, high.saturating_sub(low), &node)?;
+            copies(alloc, low, &node, rest)
+        }
+        None => {
+            if low == 0 {
+                let some = many(alloc, node)?;
+                return either(alloc, some, Node::Nothing);
+            }
+            let last = copy(alloc, &node)?;
+            let last = many(alloc, last)?;
+            copies(alloc, low - 1, &node, last)
+        }
+    }
+}

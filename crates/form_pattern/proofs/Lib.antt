@@ -15,7 +15,7 @@ pub mod TellLemmas
 pub mod WayLemmas
 pub mod NoteLemmas
 pub mod RunLemmas
-pub mod HeldLemmas
+pub mod NodeLemmas
 pub mod TableLemmas
 pub mod WholeLemmas
 pub mod DecidingLemmas

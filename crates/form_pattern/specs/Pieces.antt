@@ -50,24 +50,24 @@ either_tree = Tree.either
 abbrev pub many_tree : Tree → Tree
 many_tree = Tree.many false
 
--- n copies of a, and then b
+-- b, and then n copies of a; the last one stands on top, so that a sequence is gone over from its end
 abbrev pub copies : ℕ → Tree → Tree → Tree
 copies zero a b = b
-copies (suc n) a b = next_tree a (copies n a b)
+copies (suc n) a b = next_tree (copies n a b) a
 
--- `a{0,n}` is `(a(a(a)?)?)?`
-abbrev pub up_to : ℕ → Tree → Tree
-up_to zero a = Tree.nothing
-up_to (suc n) a = Tree.either (next_tree a (up_to n a)) Tree.nothing
+-- `a?`
+abbrev pub maybe : Tree → Tree
+maybe a = Tree.either a Tree.nothing
 
 -- `a*` is `(a+)?`, and `a{3,}` is `aaa+`
 abbrev pub at_least : ℕ → Tree → Tree
-at_least zero a = Tree.either (many_tree a) Tree.nothing
-at_least (suc n) a = copies n a (many_tree a)
+at_least zero a = maybe (many_tree a)
+at_least (suc n) a = next_tree (copies n a Tree.nothing) (many_tree a)
 
+-- `a{2,4}` is `aaa?a?`
 unfoldable pub repeated : ℕ → Option ℕ → Tree → Tree
 repeated low None a = at_least low a
-repeated low (Some high) a = copies low a (up_to (high - low) a)
+repeated low (Some high) a = copies (high - low) (maybe a) (copies low a Tree.nothing)
 
 -- ---- pieces: a weight and a tree, or none where the weight is above 2,000
 

@@ -186,11 +186,7 @@ fn turn(
     ensures { IfOk result (λ o. option_map (λ f. (level_of f, levels stack.new.items)) o ≡ turn pieces left token.now (level_of top) (levels stack.old.items)) }
 {
     match token {
-        Token::Chars(_) => Ok(Some(with_atom(
-            alloc,
-            top,
-            Piece::Light(1, Node::One(left)),
-        )?)),
+        Token::Chars(_) => Ok(Some(with_atom(alloc, top, Piece::Light(1, Node::One(left)))?)),
         Token::Start => Ok(Some(with_term(alloc, top, Piece::Light(1, Node::Start))?)),
         Token::Finish => Ok(Some(with_term(alloc, top, Piece::Light(1, Node::Finish))?)),
         Token::Bar => {

@@ -3,12 +3,18 @@
 //! behind; a place visits each node once.
 ghost use Rattle.std.specs.Prelude.{◌≡◌, ◌||◌, ◌↔◌, IsTrue, length};
 ghost use Rattle.std.specs.Str.{chars};
-ghost use Rattle.form_pattern.specs.Steps.{bare, table_has, goes, see, step, see_next, see_either};
+ghost use Rattle.form_pattern.specs.Steps.{bare, table_has, goes, flip, see, step, see_next, see_either};
 ghost use Rattle.form_pattern.specs.Matching.{passes, Matches};
 ghost use Rattle.form_pattern.specs.Pieces.{tree_of};
 
 use crate::nodes::{Node, Seen};
 use regex_class::Class as Ranges;
+
+// What the empty stretch can do.
+const EMPTY: Seen = Seen {
+    empty: true,
+    on: false,
+};
 
 // Whether the character is one of the leaf that has so many tokens behind it.
 fn has(tables: &[Ranges], left: usize, here: Option<u32>) -> bool
@@ -54,53 +60,85 @@ fn either(a: bool, b: bool) -> bool
     a || b
 }
 
-// Goes one place to the front, and says what the node can do there; k says whether at the place
-// behind the end could be reached from behind the node.
-fn step(tables: &[Ranges], node: &mut Node, first: bool, here: Option<u32>, k: bool) -> Seen
-    ensures seen { result ≡ see (table_has tables.now) first here k (tree_of node.old) }
+// The answer of a lookahead.
+fn flip(absent: bool, found: bool) -> bool
+    ensures { result ≡ flip absent found }
+{
+    found != absent
+}
+
+// Goes one place to the front, and says what the node and what stands behind it can do there; k
+// says whether at the place behind the end could be reached from behind the node. Of a sequence the
+// first part is the last call, so that a long one is gone over as by a loop.
+fn step(
+    tables: &[Ranges],
+    node: &mut Node,
+    first: bool,
+    here: Option<u32>,
+    k: bool,
+    then: Seen,
+) -> Seen
+    ensures seen { result ≡ see_next (see (table_has tables.now) first here k (tree_of node.old)) then }
     ensures notes { tree_of node.new ≡ step (table_has tables.now) first here k (tree_of node.old) }
 {
     match node {
-        Node::Nothing => Seen {
-            empty: true,
-            on: false,
-        },
-        Node::One(left) => Seen {
-            empty: false,
-            on: k && has(tables, *left, here),
-        },
-        Node::Start => Seen {
-            empty: first,
-            on: false,
-        },
-        Node::Finish => Seen {
-            empty: here.is_none(),
-            on: false,
-        },
+        Node::Nothing => see_next(EMPTY, then),
+        Node::One(left) => see_next(
+            Seen {
+                empty: false,
+                on: k && has(tables, *left, here),
+            },
+            then,
+        ),
+        Node::Start => see_next(
+            Seen {
+                empty: first,
+                on: false,
+            },
+            then,
+        ),
+        Node::Finish => see_next(
+            Seen {
+                empty: here.is_none(),
+                on: false,
+            },
+            then,
+        ),
         Node::Next(a, b, behind) => {
-            let a = step(tables, a, first, here, goes(*behind, k));
-            let b = step(tables, b, first, here, k);
+            let before = goes(*behind, k);
+            let b = step(tables, b, first, here, k, EMPTY);
             *behind = b;
-            see_next(a, b)
+            step(tables, a, first, here, before, see_next(b, then))
         }
         Node::Either(a, b) => {
-            let a = step(tables, a, first, here, k);
-            let b = step(tables, b, first, here, k);
-            see_either(a, b)
+            let a = step(tables, a, first, here, k, EMPTY);
+            let b = step(tables, b, first, here, k, EMPTY);
+            see_next(see_either(a, b), then)
         }
         Node::Many(a, round) => {
-            let a = step(tables, a, first, here, either(k, *round));
+            let a = step(tables, a, first, here, either(k, *round), EMPTY);
             *round = a.on;
-            a
+            see_next(a, then)
         }
         Node::Ahead(absent, a) => {
-            let a = step(tables, a, first, here, true);
-            Seen {
-                empty: goes(a, true) != *absent,
-                on: false,
-            }
+            let a = step(tables, a, first, here, true, EMPTY);
+            see_next(
+                Seen {
+                    empty: flip(*absent, goes(a, true)),
+                    on: false,
+                },
+                then,
+            )
         }
     }
+}
+
+// The same of the whole tree, behind which nothing stands.
+fn place(tables: &[Ranges], node: &mut Node, first: bool, here: Option<u32>, k: bool) -> Seen
+    ensures seen { result ≡ see (table_has tables.now) first here k (tree_of node.old) }
+    ensures notes { tree_of node.new ≡ step (table_has tables.now) first here k (tree_of node.old) }
+{
+    step(tables, node, first, here, k, EMPTY)
 }
 
 /// Whether the tree matches the whole value.
@@ -109,11 +147,11 @@ pub fn whole(tables: &[Ranges], node: &mut Node, value: &str) -> bool
     ensures kept { bare (tree_of node.new) ≡ bare (tree_of node.old) }
 {
     let mut rest = value.chars();
-    let mut answer = goes(step(tables, node, value.is_empty(), None, false), true);
+    let mut answer = goes(place(tables, node, value.is_empty(), None, false), true);
     let mut end = true;
     while let Some(c) = rest.next_back() {
         let first = rest.as_str().is_empty();
-        answer = goes(step(tables, node, first, Some(c as u32), end), false);
+        answer = goes(place(tables, node, first, Some(c as u32), end), false);
         end = false;
     }
     answer

@@ -1,6 +1,6 @@
 //! Patterns without quantifiers, as trees.
 ghost use Rattle.std.specs.Prelude.{◌≡◌, ◌-◌, IfOk};
-ghost use Rattle.form_pattern.specs.Pieces.{tree_of, next_tree, either_tree, many_tree, copies, up_to, repeated};
+ghost use Rattle.form_pattern.specs.Pieces.{tree_of, next_tree, either_tree, many_tree, copies, repeated};
 
 use std::alloc::{AllocError, Global};
 
@@ -38,11 +38,7 @@ pub fn next(alloc: Global, a: Node, b: Node) -> Result<Node, AllocError>
         empty: false,
         on: false,
     };
-    Ok(Node::Next(
-        Box::new(alloc, a)?,
-        Box::new(alloc, b)?,
-        unseen,
-    ))
+    Ok(Node::Next(Box::new(alloc, a)?, Box::new(alloc, b)?, unseen))
 }
 
 pub fn either(alloc: Global, a: Node, b: Node) -> Result<Node, AllocError>
@@ -69,11 +65,7 @@ fn copy(alloc: Global, node: &Node) -> Result<Node, AllocError>
         Node::Next(a, b, behind) => {
             let a = copy(alloc, a)?;
             let b = copy(alloc, b)?;
-            Ok(Node::Next(
-                Box::new(alloc, a)?,
-                Box::new(alloc, b)?,
-                *behind,
-            ))
+            Ok(Node::Next(Box::new(alloc, a)?, Box::new(alloc, b)?, *behind))
         }
         Node::Either(a, b) => {
             let a = copy(alloc, a)?;
@@ -91,27 +83,14 @@ fn copy(alloc: Global, node: &Node) -> Result<Node, AllocError>
     }
 }
 
-// A number of copies of a tree, and then another.
-fn copies(alloc: Global, count: u32, node: &Node, then: Node) -> Result<Node, AllocError>
-    ensures { IfOk result (λ n. tree_of n ≡ copies count (tree_of node.now) (tree_of then)) }
+// A tree, and then a number of copies of another.
+fn copies(alloc: Global, count: u32, node: &Node, front: Node) -> Result<Node, AllocError>
+    ensures { IfOk result (λ n. tree_of n ≡ copies count (tree_of node.now) (tree_of front)) }
 {
-    let mut all = then;
+    let mut all = front;
     for _ in 0..count {
         let one = copy(alloc, node)?;
-        all = next(alloc, one, all)?;
-    }
-    Ok(all)
-}
-
-// Up to a number of copies of a tree.
-fn up_to(alloc: Global, count: u32, node: &Node) -> Result<Node, AllocError>
-    ensures { IfOk result (λ n. tree_of n ≡ up_to count (tree_of node.now)) }
-{
-    let mut all = Node::Nothing;
-    for _ in 0..count {
-        let one = copy(alloc, node)?;
-        let some = next(alloc, one, all)?;
-        all = either(alloc, some, Node::Nothing)?;
+        all = next(alloc, all, one)?;
     }
     Ok(all)
 }
@@ -123,17 +102,18 @@ pub fn repeated(alloc: Global, low: u32, high: Option<u32>, node: Node) -> Resul
 {
     match high {
         Some(high) => {
-            let rest = up_to(alloc, high.saturating_sub(low), &node)?;
-            copies(alloc, low, &node, rest)
+            let front = copies(alloc, low, &node, Node::Nothing)?;
+            let some = either(alloc, node, Node::Nothing)?;
+            copies(alloc, high.saturating_sub(low), &some, front)
         }
         None => {
             if low == 0 {
                 let some = many(alloc, node)?;
                 return either(alloc, some, Node::Nothing);
             }
-            let last = copy(alloc, &node)?;
-            let last = many(alloc, last)?;
-            copies(alloc, low - 1, &node, last)
+            let front = copies(alloc, low - 1, &node, Node::Nothing)?;
+            let last = many(alloc, node)?;
+            next(alloc, front, last)
         }
     }
 }

@@ -9,7 +9,7 @@ use Rattle.form_pattern.proofs.matching.whole.Goals as goal
 pub loop-c-init : goal.loop-c-init
 loop-c-init c =
     let utf8 = c.utf8.value in
-    rw (c.chars-rest.ensures.rest, c.goes-answer.ensures, c.step.ensures.seen, c.step.ensures.notes, c.is_empty.ensures, empty_same c.args.value.now utf8) (stands_first (table_has c.args.tables.now) (chars c.args.value.now) (tree_of c.args.node.now))
+    rw (c.chars-rest.ensures.rest, c.goes-answer.ensures, c.place.ensures.seen, c.place.ensures.notes, c.is_empty.ensures, empty_same c.args.value.now utf8) (stands_first (table_has c.args.tables.now) (chars c.args.value.now) (tree_of c.args.node.now))
 
 pub loop-c-preserved : goal.loop-c-preserved
 loop-c-preserved c =
@@ -18,7 +18,7 @@ loop-c-preserved c =
     let scalar : IsScalar c.in-Some.c = search rules in
     let read = last_char front c.loop-c.rest.rest.now c.in-Some.c utf8 scalar c.in-Some.ensures.steps in
     let before = rw read at c.loop-c.invariant in
-    rw (c.goes-answer-in-Some.ensures, c.step-in-Some.ensures.seen, c.step-in-Some.ensures.notes, c.is_empty-first.ensures, c.as_str.ensures, empty_same front utf8) (stands_next (table_has c.args.tables.now) (chars c.args.value.now) (bare (tree_of c.args.node.now)) (chars front) c.in-Some.c (tree_of c.loop-c.node) c.loop-c.answer c.loop-c.end before)
+    rw (c.goes-answer-in-Some.ensures, c.place-in-Some.ensures.seen, c.place-in-Some.ensures.notes, c.is_empty-first.ensures, c.as_str.ensures, empty_same front utf8) (stands_next (table_has c.args.tables.now) (chars c.args.value.now) (bare (tree_of c.args.node.now)) (chars front) c.in-Some.c (tree_of c.loop-c.node) c.loop-c.answer c.loop-c.end before)
 
 pub returns-clause-answer : goal.returns-clause-answer
 returns-clause-answer c =

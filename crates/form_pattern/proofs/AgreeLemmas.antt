@@ -1,6 +1,7 @@
 -- Two readers of groups agree where they agree part for part.
 use Rattle.std.proofs.Common.{◌≡◌, ℕ, nat_lt, Bool, true, false, cond, List, [], ◌∷◌, length, Option, Some, None, refl, sym, subst, arith}
 use Rattle.std.proofs.lemmas.Option.{none-some, same_Some}
+use Rattle.form_pattern.specs.declared.tokens.High.{High}
 use Rattle.form_pattern.specs.declared.groups.TheConstants.{DEEPEST}
 use Rattle.form_pattern.specs.declared.tokens.Chars.{Chars}
 use Rattle.form_pattern.specs.declared.tokens.Token.{Token}
@@ -10,23 +11,23 @@ use Rattle.form_pattern.specs.Grouping.{Makes, Level, fresh, with_last, after_ba
 
 -- ---- two readers that agree part for part
 
-pub record Agree {A B : Type 0} (R : A → B → Type 0) (F : ℕ → Chars → Type 0) (Q : ℕ → Option ℕ → Type 0) (m : Makes A) (n : Makes B) : Type 0 where
+pub record Agree {A B : Type 0} (R : A → B → Type 0) (F : ℕ → Chars → Type 0) (Q : ℕ → High → Type 0) (m : Makes A) (n : Makes B) : Type 0 where
   pub nothing : R m.nothing n.nothing
   pub start : R m.start n.start
   pub finish : R m.finish n.finish
   pub one : (left : ℕ) (cs : Chars) → F left cs → R (m.one left cs) (n.one left cs)
   pub next : (a b : A) (x y : B) → R a x → R b y → R (m.next a b) (n.next x y)
   pub either : (a b : A) (x y : B) → R a x → R b y → R (m.either a b) (n.either x y)
-  pub repeat : (low : ℕ) (high : Option ℕ) (a : A) (x : B) → Q low high → R a x → R (m.repeat low high a) (n.repeat low high x)
+  pub repeat : (low : ℕ) (high : High) (a : A) (x : B) → Q low high → R a x → R (m.repeat low high a) (n.repeat low high x)
   pub ahead : (absent : Bool) (a : A) (x : B) → R a x → R (m.ahead absent a) (n.ahead absent x)
 
 -- what is known of a token behind which so many are left
-abbrev pub Good : (ℕ → Chars → Type 0) → (ℕ → Option ℕ → Type 0) → ℕ → Token → Type 0
+abbrev pub Good : (ℕ → Chars → Type 0) → (ℕ → High → Type 0) → ℕ → Token → Type 0
 Good F Q left (token.Chars cs) = F left cs
 Good F Q left (Quantifier low high) = Q low high
 Good F Q left _ = Unit {0}
 
-abbrev pub AllGood : (ℕ → Chars → Type 0) → (ℕ → Option ℕ → Type 0) → List Token → Type 0
+abbrev pub AllGood : (ℕ → Chars → Type 0) → (ℕ → High → Type 0) → List Token → Type 0
 AllGood F Q [] = Unit {0}
 AllGood F Q (t ∷ ts) = Good F Q (length ts) t × AllGood F Q ts
 
@@ -37,7 +38,7 @@ Both R (Some a) (Some b) = R a b
 Both R None (Some b) = ⊥
 Both R (Some a) None = ⊥
 
-module _ {A B : Type 0} (R : A → B → Type 0) (F : ℕ → Chars → Type 0) (Q : ℕ → Option ℕ → Type 0) (m : Makes A) (n : Makes B) (agree : Agree R F Q m n) where
+module _ {A B : Type 0} (R : A → B → Type 0) (F : ℕ → Chars → Type 0) (Q : ℕ → High → Type 0) (m : Makes A) (n : Makes B) (agree : Agree R F Q m n) where
   record Levels (f : Level A) (g : Level B) : Type 0 where
     ahead : f.ahead ≡ g.ahead
     before : Both R f.before g.before
@@ -105,7 +106,7 @@ module _ {A B : Type 0} (R : A → B → Type 0) (F : ℕ → Chars → Type 0) 
   closed_agree f g [] (k ∷ gs) l s = absurd s
   closed_agree f g (h ∷ fs) [] l s = absurd s
 
-  quantified_agree : (f : Level A) (g : Level B) (low : ℕ) (high : Option ℕ) (fs : List (Level A)) (gs : List (Level B)) (o : Option A) (q : Option B) → Q low high → Levels f g → Stacks fs gs → Both R o q →
+  quantified_agree : (f : Level A) (g : Level B) (low : ℕ) (high : High) (fs : List (Level A)) (gs : List (Level B)) (o : Option A) (q : Option B) → Q low high → Levels f g → Stacks fs gs → Both R o q →
       Both Turned (on_top m fs (quantified m f low high o)) (on_top n gs (quantified n g low high q))
   quantified_agree f g low high fs gs None None k l s b = tt
   quantified_agree f g low high fs gs (Some a) (Some x) k l s b =

@@ -1,5 +1,7 @@
 -- A tree of copies matches what a quantifier says.
 use Rattle.std.proofs.Common.{◌≡◌, ℕ, zero, suc, ◌+◌, ◌-◌, ◌≤◌, Bool, true, false, inl, inr, List, Option, Some, None, refl, sym, subst, arith, add-one, zero-add, suc-add}
+use Rattle.form_pattern.specs.declared.tokens.High.{High}
+use Rattle.form_pattern.specs.declared.tokens.High.TheVariants.{Times, Endless, Sign}
 use Rattle.form_pattern.specs.Matching.{Turns, IsUpTo, Rounds, last, more, Holds, Matches}
 use Rattle.form_pattern.specs.Pieces.{Tree, copies, maybe, at_least, repeated}
 
@@ -80,18 +82,20 @@ module _ (has : ℕ → ℕ → Bool) (s : List ℕ) (a : Tree) where
       let h = turns_split (Matches has s a) low (suc (n - suc low)) i j (subst (λ m. Turns m (Matches has s a) i j) size t) in
       (h.0, alone_from low i h.0 h.1, turns_rounds (Matches has s a) (n - suc low) h.0 j h.2)
 
-  pub repeated_to : (low : ℕ) (high : Option ℕ) (i j : ℕ) → IsUpTo low high → Matches has s (repeated low high a) i j → (n : ℕ) × (low ≤ n) × IsUpTo n high × Turns n (Matches has s a) i j
+  pub repeated_to : (low : ℕ) (high : High) (i j : ℕ) → IsUpTo low high → Matches has s (repeated low high a) i j → (n : ℕ) × (low ≤ n) × IsUpTo n high × Turns n (Matches has s a) i j
   unfolding repeated
-  repeated_to low None i j fits m = let h = at_least_to low i j m in (h.0, h.1, tt, h.2)
-  repeated_to low (Some high) i j fits m =
+  repeated_to low Endless i j fits m = let h = at_least_to low i j m in (h.0, h.1, tt, h.2)
+  repeated_to low Sign i j fits m = let h = at_least_to low i j m in (h.0, h.1, tt, h.2)
+  repeated_to low (Times high) i j fits m =
       let h = copies_to has s (maybe a) (copies low a Tree.nothing) (high - low) i j m in
       let t = maybe_to (high - low) h.0 j h.2 in
       (low + t.0, omega arith, omega (arith, t.1), turns_join (Matches has s a) low t.0 i h.0 j (alone_to low i h.0 h.1) t.2)
 
-  pub repeated_from : (low : ℕ) (high : Option ℕ) (n i j : ℕ) → low ≤ n → IsUpTo n high → Turns n (Matches has s a) i j → Matches has s (repeated low high a) i j
+  pub repeated_from : (low : ℕ) (high : High) (n i j : ℕ) → low ≤ n → IsUpTo n high → Turns n (Matches has s a) i j → Matches has s (repeated low high a) i j
   unfolding repeated
-  repeated_from low None n i j le up t = at_least_from low n i j le t
-  repeated_from low (Some high) n i j le up t =
+  repeated_from low Endless n i j le up t = at_least_from low n i j le t
+  repeated_from low Sign n i j le up t = at_least_from low n i j le t
+  repeated_from low (Times high) n i j le up t =
       let size : n ≡ low + (n - low) = omega arith in
       let h = turns_split (Matches has s a) low (n - low) i j (subst (λ m. Turns m (Matches has s a) i j) size t) in
       copies_from has s (maybe a) (copies low a Tree.nothing) (high - low) i h.0 j (alone_from low i h.0 h.1) (maybe_from (high - low) (n - low) h.0 j (omega arith) h.2)

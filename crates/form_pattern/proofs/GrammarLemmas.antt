@@ -2,6 +2,7 @@
 use Rattle.std.proofs.Common.{◌≡◌, ℕ, zero, suc, ◌+◌, ◌<◌, ◌≤◌, nat_lt, Bool, true, false, cond, List, [], ◌∷◌, ◌++◌, length, Option, Some, None, refl, sym, ap, ◌∙◌, subst, arith, append_assoc, append-nil}
 use Rattle.std.proofs.lemmas.Option.{none-some, same_Some}
 use Rattle.std.proofs.lemmas.Bool.{lt-ltb, ltb-true}
+use Rattle.form_pattern.specs.declared.tokens.High.{High}
 use Rattle.form_pattern.specs.declared.groups.TheConstants.{DEEPEST}
 use Rattle.form_pattern.specs.declared.tokens.Token.{Token}
 use Rattle.form_pattern.specs.declared.tokens.Token.TheVariants.{Start, Finish, Bar, Open, Ahead, Close, Quantifier}
@@ -164,7 +165,7 @@ inside_ahead : (o : Option Bool) (g : Frame) (q : Pattern) → (inside patterns 
 inside_ahead None g q = refl
 inside_ahead (Some absent) g q = refl
 
-repeat_ok : (d : ℕ) (ts : List Token) (f : Frame) (low : ℕ) (high : Option ℕ) (a : Pattern) → f.atom ≡ Some a → FrameOk d ts f →
+repeat_ok : (d : ℕ) (ts : List Token) (f : Frame) (low : ℕ) (high : High) (a : Pattern) → f.atom ≡ Some a → FrameOk d ts f →
     FrameOk d (ts ++ Quantifier low high ∷ []) (record { ahead = f.ahead; before = f.before; branch = Pattern.next f.branch (Pattern.repeat low high a); atom = None })
 repeat_ok d ts f low high a is ok =
     let h : TermsOk d ok.back f.branch (Some a) = subst (TermsOk d ok.back f.branch) is ok.rest in

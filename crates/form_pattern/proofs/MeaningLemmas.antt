@@ -1,6 +1,8 @@
 -- The tree of a light piece matches what its pattern means.
 use Rattle.std.proofs.Common.{◌≡◌, ℕ, zero, suc, ◌==◌, ◌+◌, ◌*◌, ◌≤◌, nat_le, Bool, true, false, cond, ◌⊎◌, inl, inr, ⊎_elim, List, slice_get, Option, Some, None, refl, sym, ◌∙◌, subst, arith}
 use Rattle.std.proofs.lemmas.Bool.{eqb-true}
+use Rattle.form_pattern.specs.declared.tokens.High.{High}
+use Rattle.form_pattern.specs.declared.tokens.High.TheVariants.{Times, Endless, Sign}
 use Rattle.form_pattern.specs.declared.pieces.TheConstants.{HEAVIEST}
 use Rattle.form_pattern.specs.declared.tokens.Chars.{Chars}
 use Rattle.form_pattern.specs.declared.tokens.Token.{Token}
@@ -41,7 +43,7 @@ no_turns R zero e i j = (λ t. t, λ t. t)
 no_turns R (suc n) e i j = absurd (omega arith)
 
 -- copies of what stands still
-still_repeat : (R : ℕ → ℕ → Type 0) → Still R → (low : ℕ) (high : Option ℕ) → IsUpTo low high → Still (λ i j. (n : ℕ) × (low ≤ n) × IsUpTo n high × Turns n R i j)
+still_repeat : (R : ℕ → ℕ → Type 0) → Still R → (low : ℕ) (high : High) → IsUpTo low high → Still (λ i j. (n : ℕ) × (low ≤ n) × IsUpTo n high × Turns n R i j)
 still_repeat R still low high fits i j = (λ m. (turns_still R still m.0 i j).0 m.3, λ e. (low, omega arith, fits, (turns_still R still low i j).1 e))
 
 never_repeat : (R : ℕ → ℕ → Type 0) (low high : ℕ) → high ≡ 0 → low ≤ high → Still (λ i j. (n : ℕ) × (low ≤ n) × (n ≤ high) × Turns n R i j)
@@ -61,12 +63,13 @@ weightless s (Pattern.next a b) o e i j =
     let two = weightless s b o.1 (omega arith) in
     (λ m. (two m.0 j).0 m.2 ∙ (one i m.0).0 m.1, λ same. (i, (one i i).1 refl, (two i j).1 same))
 weightless s (Pattern.either a b) o e i j = absurd (omega arith)
-weightless s (Pattern.repeat low None a) o e i j = absurd (omega arith)
-weightless s (Pattern.repeat low (Some high) a) o e i j = go (product_none high (weight a) (omega arith)) (λ w. weightless s a o.1 w)
+weightless s (Pattern.repeat low Endless a) o e i j = absurd (omega arith)
+weightless s (Pattern.repeat low Sign a) o e i j = absurd (omega arith)
+weightless s (Pattern.repeat low (Times high) a) o e i j = go (product_none high (weight a) (omega arith)) (λ w. weightless s a o.1 w)
   where
     go : (high ≡ 0) ⊎ (weight a ≡ 0) → (weight a ≡ 0 → Still (Means s a)) → (((n : ℕ) × (low ≤ n) × (n ≤ high) × Turns n (Means s a) i j) → j ≡ i) × (j ≡ i → (n : ℕ) × (low ≤ n) × (n ≤ high) × Turns n (Means s a) i j)
     go (inl z) deeper = never_repeat (Means s a) low high z o.0 i j
-    go (inr w) deeper = still_repeat (Means s a) (deeper w) low (Some high) o.0 i j
+    go (inr w) deeper = still_repeat (Means s a) (deeper w) low (Times high) o.0 i j
 weightless s (Pattern.ahead absent a) o e i j = absurd (omega arith)
 
 -- ---- trees and patterns that match alike
@@ -156,7 +159,7 @@ module _ (has : ℕ → ℕ → Bool) where
   ahead_stands absent None p x = record { weighs = ahead_weighs absent None p x.weighs; ordered = x.ordered; alike = tt }
   ahead_stands absent (Some a) p x = record { weighs = ahead_weighs absent (Some a) p x.weighs; ordered = x.ordered; alike = alike_light (a.0 + 1) (Tree.ahead absent a.1) (Pattern.ahead absent p) (ahead_alike absent a.1 p x.alike) }
 
-  copies_alike : (low : ℕ) (high : Option ℕ) (t : Tree) (p : Pattern) → IsUpTo low high → MatchAlike has t p → MatchAlike has (repeated low high t) (Pattern.repeat low high p)
+  copies_alike : (low : ℕ) (high : High) (t : Tree) (p : Pattern) → IsUpTo low high → MatchAlike has t p → MatchAlike has (repeated low high t) (Pattern.repeat low high p)
   copies_alike low high t p fits f s known i j = (
     λ m. let h = repeated_to has s t low high i j fits m in (h.0, h.1, h.2, turns_map (Matches has s t) (Means s p) (λ i j. (f s known i j).0) h.0 i j h.3),
     λ m. repeated_from has s t low high m.0 i j m.1 m.2 (turns_map (Means s p) (Matches has s t) (λ i j. (f s known i j).1) m.0 i j m.3),
@@ -165,26 +168,27 @@ module _ (has : ℕ → ℕ → Bool) where
   still_alike : (p : Pattern) → ((s : List ℕ) → Still (Means s p)) → MatchAlike has Tree.nothing p
   still_alike p still s known i j = ((still s i j).1, (still s i j).0)
 
-  light_repeat : (low : ℕ) (high : Option ℕ) (a : ℕ × Tree) (p : Pattern) → IsUpTo low high → a.0 ≡ weight p → InOrder p → MatchAlike has a.1 p → MatchAlike has (cond (a.0 == 0) Tree.nothing (repeated low high a.1)) (Pattern.repeat low high p)
+  light_repeat : (low : ℕ) (high : High) (a : ℕ × Tree) (p : Pattern) → IsUpTo low high → a.0 ≡ weight p → InOrder p → MatchAlike has a.1 p → MatchAlike has (cond (a.0 == 0) Tree.nothing (repeated low high a.1)) (Pattern.repeat low high p)
   light_repeat low high a p fits w o f = go (a.0 == 0) refl
     where
       go : (b : Bool) → (a.0 == 0) ≡ b → MatchAlike has (cond b Tree.nothing (repeated low high a.1)) (Pattern.repeat low high p)
       go true e = still_alike (Pattern.repeat low high p) (λ s. still_repeat (Means s p) (weightless s p o (sym w ∙ eqb-true a.0 0 e)) low high fits)
       go false e = copies_alike low high a.1 p fits f
 
-  some_repeat : (low : ℕ) (high : Option ℕ) (a : Light) (p : Pattern) → IsUpTo low high → StandsFor a p → Alike (repeated_some low high a) (Pattern.repeat low high p)
+  some_repeat : (low : ℕ) (high : High) (a : Light) (p : Pattern) → IsUpTo low high → StandsFor a p → Alike (repeated_some low high a) (Pattern.repeat low high p)
   some_repeat low high None p fits x = tt
   some_repeat low high (Some a) p fits x =
       alike_light (repeat_weight low high a.0) (cond (a.0 == 0) Tree.nothing (repeated low high a.1)) (Pattern.repeat low high p) (light_repeat low high a p fits x.weighs.0 x.ordered x.alike)
 
-  repeat_alike : (low : ℕ) (high : Option ℕ) (a : Light) (p : Pattern) → IsUpTo low high → StandsFor a p → Alike (repeat_piece low high a) (Pattern.repeat low high p)
+  repeat_alike : (low : ℕ) (high : High) (a : Light) (p : Pattern) → IsUpTo low high → StandsFor a p → Alike (repeat_piece low high a) (Pattern.repeat low high p)
   unfolding repeat_piece
-  repeat_alike low None a p fits x = some_repeat low None a p fits x
-  repeat_alike low (Some high) a p fits x = go (high == 0) refl
+  repeat_alike low Endless a p fits x = some_repeat low Endless a p fits x
+  repeat_alike low Sign a p fits x = some_repeat low Sign a p fits x
+  repeat_alike low (Times high) a p fits x = go (high == 0) refl
     where
-      go : (b : Bool) → (high == 0) ≡ b → Alike (cond b (Some (0, Tree.nothing)) (repeated_some low (Some high) a)) (Pattern.repeat low (Some high) p)
-      go true e = still_alike (Pattern.repeat low (Some high) p) (λ s. never_repeat (Means s p) low high (eqb-true high 0 e) fits)
-      go false e = some_repeat low (Some high) a p fits x
+      go : (b : Bool) → (high == 0) ≡ b → Alike (cond b (Some (0, Tree.nothing)) (repeated_some low (Times high) a)) (Pattern.repeat low (Times high) p)
+      go true e = still_alike (Pattern.repeat low (Times high) p) (λ s. never_repeat (Means s p) low high (eqb-true high 0 e) fits)
+      go false e = some_repeat low (Times high) a p fits x
 
   pieces_stand : Agree StandsFor (Fits has) IsUpTo pieces patterns
   pieces_stand = record {

@@ -2,6 +2,7 @@
 use Rattle.std.proofs.Common.{◌≡◌, false, ℕ, zero, suc, ◌-◌, ◌<◌, ◌≤◌, List, [], ◌∷◌, ◌++◌, length, drop, get_or, slice_get, Option, Some, None, refl, sym, ap, ◌∙◌, subst, arith, append_assoc, append-nil, drop-cons, length-append}
 use Rattle.regex_class.specs.declared.Class.{Class}
 use Rattle.regex_class.specs.Ranges.{in_ranges}
+use Rattle.form_pattern.specs.declared.tokens.High.{High}
 use Rattle.form_pattern.specs.declared.tokens.Token.{Token}
 use Rattle.form_pattern.specs.declared.tokens.Token.TheVariants.{Start, Finish, Bar, Open, Ahead, Close, Quantifier}
 use Rattle.form_pattern.specs.declared.tokens.Token.TheVariants as token
@@ -60,7 +61,7 @@ pub tables_good : (ts : List Token) (tables : List Class) → AreTables ts table
 tables_good ts tables a g = subst (λ xs. AllGood (Fits (table_has xs)) IsUpTo ts) (append-nil tables) (tables_fit ts tables [] a g)
 
 -- the bounds of a quantifier that is spelled are in order
-quantifier_bounds : (text : List ℕ) (low : ℕ) (high : Option ℕ) (rest : List ℕ) → IsQuantifier text low high rest → IsUpTo low high
+quantifier_bounds : (text : List ℕ) (low : ℕ) (high : High) (rest : List ℕ) → IsQuantifier text low high rest → IsUpTo low high
 quantifier_bounds _ _ _ _ (star rest) = tt
 quantifier_bounds _ _ _ _ (plus rest) = tt
 quantifier_bounds _ _ _ _ (question rest) = omega arith

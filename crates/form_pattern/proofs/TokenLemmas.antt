@@ -5,6 +5,8 @@ use Rattle.std.proofs.lemmas.Bool.{eqb-true, ltb-false}
 use Rattle.std.specs.Option.{unwrap_or}
 use Rattle.std.specs.Char.{digit_value}
 use Rattle.std.specs.Str.Parse.{IsNumeral}
+use Rattle.form_pattern.specs.declared.tokens.High.{High}
+use Rattle.form_pattern.specs.declared.tokens.High.TheVariants.{Times, Endless, Sign}
 use Rattle.form_pattern.specs.declared.characters.Set.{Set}
 use Rattle.form_pattern.specs.declared.classes.Class.{Class}
 use Rattle.form_pattern.specs.declared.tokens.Chars.TheVariants as chars_of
@@ -22,7 +24,7 @@ use Rattle.form_pattern.proofs.ClassLemmas.{map_spelled, after_is, after_none, n
 
 -- ---- lengths
 
-quantifier_shorter : (text : List ℕ) (low : ℕ) (high : Option ℕ) (rest : List ℕ) → IsQuantifier text low high rest → length rest < length text
+quantifier_shorter : (text : List ℕ) (low : ℕ) (high : High) (rest : List ℕ) → IsQuantifier text low high rest → length rest < length text
 quantifier_shorter _ _ _ _ (star rest) = omega arith
 quantifier_shorter _ _ _ _ (plus rest) = omega arith
 quantifier_shorter _ _ _ _ (question rest) = omega arith
@@ -49,7 +51,7 @@ token_shorter _ _ _ (class text k rest e) = class_shorter text k rest e
 
 -- ---- found: what is read is spelled
 
-lazily_spelled : (text : List ℕ) (low : ℕ) (high : Option ℕ) (behind : List ℕ) (t : Token) (rest : List ℕ) → IsQuantifier text low high behind → Some (lazily low high behind) ≡ Some (t, rest) → IsToken text t rest
+lazily_spelled : (text : List ℕ) (low : ℕ) (high : High) (behind : List ℕ) (t : Token) (rest : List ℕ) → IsQuantifier text low high behind → Some (lazily low high behind) ≡ Some (t, rest) → IsToken text t rest
 unfolding lazily
 lazily_spelled text low high behind t rest q h = let p = some_pair_parts _ t _ rest h in subst (λ u. IsToken text u rest) p.0 (subst (λ r. IsToken text (Quantifier low high) r) p.1 (go (after 63 behind) refl))
   where
@@ -61,15 +63,15 @@ closed_spelled : (text : List ℕ) (low high : ℕ) (mid behind : List ℕ) (t :
 closed_spelled text low high mid [] t rest d e h = absurd (none-some (t, rest) h)
 closed_spelled text low high mid (c ∷ cs) t rest d e h =
     if_some (c == 125) _ (t, rest) h (λ is g.
-    either_way (nat_lt high low) None (Some (lazily low (Some high) cs)) (t, rest) g (λ less k. absurd (none-some (t, rest) k)) (λ le k.
-    lazily_spelled (123 ∷ text) low (Some high) cs t rest (between text low mid high cs d (subst (λ y. IsNumber 10 MOST mid high (y ∷ cs)) (eqb-true c 125 is) e) (ltb-false _ _ le)) k))
+    either_way (nat_lt high low) None (Some (lazily low (Times high) cs)) (t, rest) g (λ less k. absurd (none-some (t, rest) k)) (λ le k.
+    lazily_spelled (123 ∷ text) low (Times high) cs t rest (between text low mid high cs d (subst (λ y. IsNumber 10 MOST mid high (y ∷ cs)) (eqb-true c 125 is) e) (ltb-false _ _ le)) k))
 
 upper_spelled : (text : List ℕ) (low : ℕ) (mid : List ℕ) (t : Token) (rest : List ℕ) → IsNumber 10 MOST text low (44 ∷ mid) → upper_bound low mid ≡ Some (t, rest) → IsToken (123 ∷ text) t rest
 unfolding upper_bound
 upper_spelled text low [] t rest d h = absurd (none-some (t, rest) h)
 upper_spelled text low (c ∷ cs) t rest d h =
     at_sign c 125 _ _ (t, rest) h
-    (λ is g. lazily_spelled (123 ∷ text) low None cs t rest (at_least text low cs (subst (λ y. IsNumber 10 MOST text low (44 ∷ y ∷ cs)) is d)) g)
+    (λ is g. lazily_spelled (123 ∷ text) low Endless cs t rest (at_least text low cs (subst (λ y. IsNumber 10 MOST text low (44 ∷ y ∷ cs)) is d)) g)
     (λ g. option_and_then_some _ (number 10 MOST (c ∷ cs)) (t, rest) g (λ r e k. closed_spelled text low r.0 (c ∷ cs) r.1 t rest d (number_spelled 10 MOST (c ∷ cs) r.0 r.1 e) k))
 
 bounds_spelled : (text : List ℕ) (t : Token) (rest : List ℕ) → bounds text ≡ Some (t, rest) → IsToken (123 ∷ text) t rest
@@ -80,7 +82,7 @@ bounds_spelled text t rest h = option_and_then_some _ (number 10 MOST text) (t, 
     go low [] d g = absurd (none-some (t, rest) g)
     go low (c ∷ cs) d g =
         at_sign c 125 _ _ (t, rest) g
-        (λ is k. lazily_spelled (123 ∷ text) low (Some low) cs t rest (exactly text low cs (subst (λ y. IsNumber 10 MOST text low (y ∷ cs)) is d)) k)
+        (λ is k. lazily_spelled (123 ∷ text) low (Times low) cs t rest (exactly text low cs (subst (λ y. IsNumber 10 MOST text low (y ∷ cs)) is d)) k)
         (λ k. if_some (c == 44) _ (t, rest) k (λ is n. upper_spelled text low cs t rest (subst (λ y. IsNumber 10 MOST text low (y ∷ cs)) (eqb-true c 44 is) d) n))
 
 -- a token that is read at once
@@ -122,9 +124,9 @@ sign_spelled c cs t rest h =
     at_sign c 41 _ _ (t, rest) h3 (λ e k. at 41 Close e (close cs) k) (λ h4.
     at_sign c 40 _ _ (t, rest) h4 (λ e k. whole 40 e (opening_spelled cs t rest k)) (λ h5.
     at_sign c 46 _ _ (t, rest) h5 (λ e k. at 46 (token_of.Chars chars_of.Any) e (any cs) k) (λ h6.
-    at_sign c 42 _ _ (t, rest) h6 (λ e k. whole 42 e (lazily_spelled (42 ∷ cs) 0 None cs t rest (star cs) k)) (λ h7.
-    at_sign c 43 _ _ (t, rest) h7 (λ e k. whole 43 e (lazily_spelled (43 ∷ cs) 1 None cs t rest (plus cs) k)) (λ h8.
-    at_sign c 63 _ _ (t, rest) h8 (λ e k. whole 63 e (lazily_spelled (63 ∷ cs) 0 (Some 1) cs t rest (question cs) k)) (λ h9.
+    at_sign c 42 _ _ (t, rest) h6 (λ e k. whole 42 e (lazily_spelled (42 ∷ cs) 0 Sign cs t rest (star cs) k)) (λ h7.
+    at_sign c 43 _ _ (t, rest) h7 (λ e k. whole 43 e (lazily_spelled (43 ∷ cs) 1 Sign cs t rest (plus cs) k)) (λ h8.
+    at_sign c 63 _ _ (t, rest) h8 (λ e k. whole 63 e (lazily_spelled (63 ∷ cs) 0 (Times 1) cs t rest (question cs) k)) (λ h9.
     at_sign c 123 _ _ (t, rest) h9 (λ e k. whole 123 e (bounds_spelled cs t rest k)) (λ h10.
     if_some (c == 92) _ (t, rest) h10 (λ e k. whole 92 (eqb-true c 92 e) (escaped_spelled cs t rest (subst (λ y. escaped (y ∷ cs) ≡ Some (t, rest)) (eqb-true c 92 e) k)))))))))))))
   where
@@ -173,26 +175,26 @@ not_end x d = go (x == 125) refl
     go true e = absurd (omega (arith, subst (λ y. digit_value y < 10) (eqb-true x 125 e) d))
     go false e = refl
 
-upper_reads : (low : ℕ) (mid : List ℕ) (high : ℕ) (rest : List ℕ) → IsNumber 10 MOST mid high (125 ∷ rest) → low ≤ high → upper_bound low mid ≡ Some (lazily low (Some high) rest)
+upper_reads : (low : ℕ) (mid : List ℕ) (high : ℕ) (rest : List ℕ) → IsNumber 10 MOST mid high (125 ∷ rest) → low ≤ high → upper_bound low mid ≡ Some (lazily low (Times high) rest)
 unfolding upper_bound
 upper_reads low mid high rest d le =
     let b = number_begins 10 MOST mid high (125 ∷ rest) d in
     let below : nat_lt high low ≡ false = grind arith in
     rw b.2 (rw (not_end b.0 b.3, sym (ap (number 10 MOST) b.2) ∙ number_reads 10 MOST mid high (125 ∷ rest) (omega arith) refl d, below) refl)
 
-bounds_exactly : (text : List ℕ) (n : ℕ) (rest : List ℕ) → IsNumber 10 MOST text n (125 ∷ rest) → bounds text ≡ Some (lazily n (Some n) rest)
+bounds_exactly : (text : List ℕ) (n : ℕ) (rest : List ℕ) → IsNumber 10 MOST text n (125 ∷ rest) → bounds text ≡ Some (lazily n (Times n) rest)
 unfolding bounds
 bounds_exactly text n rest d = rw (number_reads 10 MOST text n (125 ∷ rest) (omega arith) refl d) refl
 
-bounds_at_least : (text : List ℕ) (n : ℕ) (rest : List ℕ) → IsNumber 10 MOST text n (44 ∷ 125 ∷ rest) → bounds text ≡ Some (lazily n None rest)
+bounds_at_least : (text : List ℕ) (n : ℕ) (rest : List ℕ) → IsNumber 10 MOST text n (44 ∷ 125 ∷ rest) → bounds text ≡ Some (lazily n Endless rest)
 unfolding bounds upper_bound
 bounds_at_least text n rest d = rw (number_reads 10 MOST text n (44 ∷ 125 ∷ rest) (omega arith) refl d) refl
 
-bounds_between : (text : List ℕ) (n : ℕ) (mid : List ℕ) (m : ℕ) (rest : List ℕ) → IsNumber 10 MOST text n (44 ∷ mid) → IsNumber 10 MOST mid m (125 ∷ rest) → n ≤ m → bounds text ≡ Some (lazily n (Some m) rest)
+bounds_between : (text : List ℕ) (n : ℕ) (mid : List ℕ) (m : ℕ) (rest : List ℕ) → IsNumber 10 MOST text n (44 ∷ mid) → IsNumber 10 MOST mid m (125 ∷ rest) → n ≤ m → bounds text ≡ Some (lazily n (Times m) rest)
 unfolding bounds
 bounds_between text n mid m rest d e le = rw (number_reads 10 MOST text n (44 ∷ mid) (omega arith) refl d) (upper_reads n mid m rest e le)
 
-quantifier_reads : (text : List ℕ) (low : ℕ) (high : Option ℕ) (rest : List ℕ) → IsQuantifier text low high rest → read_token text ≡ Some (lazily low high rest)
+quantifier_reads : (text : List ℕ) (low : ℕ) (high : High) (rest : List ℕ) → IsQuantifier text low high rest → read_token text ≡ Some (lazily low high rest)
 unfolding read_token small_token is_plain
 quantifier_reads _ _ _ _ (star rest) = refl
 quantifier_reads _ _ _ _ (plus rest) = refl
@@ -201,11 +203,11 @@ quantifier_reads _ _ _ _ (exactly text n rest d) = bounds_exactly text n rest d
 quantifier_reads _ _ _ _ (at_least text n rest d) = bounds_at_least text n rest d
 quantifier_reads _ _ _ _ (between text n mid m rest d e le) = bounds_between text n mid m rest d e le
 
-not_lazy : (low : ℕ) (high : Option ℕ) (rest : List ℕ) → begins 63 rest ≡ false → lazily low high rest ≡ (Quantifier low high, rest)
+not_lazy : (low : ℕ) (high : High) (rest : List ℕ) → begins 63 rest ≡ false → lazily low high rest ≡ (Quantifier low high, rest)
 unfolding lazily
 not_lazy low high rest e = rw (none_after 63 rest e) refl
 
-is_lazy : (low : ℕ) (high : Option ℕ) (rest : List ℕ) → lazily low high (63 ∷ rest) ≡ (Quantifier low high, rest)
+is_lazy : (low : ℕ) (high : High) (rest : List ℕ) → lazily low high (63 ∷ rest) ≡ (Quantifier low high, rest)
 unfolding lazily
 is_lazy low high rest = refl
 

@@ -1,6 +1,8 @@
 -- The reader makes a piece of each pattern; it is light exactly where the pattern is.
 use Rattle.std.proofs.Common.{◌≡◌, ℕ, zero, suc, ◌==◌, ◌+◌, ◌-◌, ◌*◌, ◌<◌, ◌≤◌, nat_le, Bool, true, false, cond, List, [], ◌∷◌, length, Option, Some, None, refl, ap, arith, true≢false, zero-mul, suc-mul}
 use Rattle.std.proofs.lemmas.Bool.{leb-true, leb-false, eqb-true}
+use Rattle.form_pattern.specs.declared.tokens.High.{High}
+use Rattle.form_pattern.specs.declared.tokens.High.TheVariants.{Times, Endless, Sign}
 use Rattle.form_pattern.specs.declared.pieces.TheConstants.{HEAVIEST}
 use Rattle.form_pattern.specs.declared.tokens.Token.{Token}
 use Rattle.form_pattern.specs.declared.tokens.Token.TheVariants.{Start, Finish, Bar, Open, Ahead, Close, Quantifier}
@@ -51,16 +53,18 @@ much : (low high w : ℕ) → (high == 0) ≡ false → HEAVIEST < w → HEAVIES
 much low zero w e h = absurd (true≢false e)
 much low (suc n) w e h = omega (arith, suc-mul n w)
 
-pub repeat_weighs : (low : ℕ) (high : Option ℕ) (a : Light) (p : Pattern) → Weighs a p → Weighs (repeat_piece low high a) (Pattern.repeat low high p)
+pub repeat_weighs : (low : ℕ) (high : High) (a : Light) (p : Pattern) → Weighs a p → Weighs (repeat_piece low high a) (Pattern.repeat low high p)
 unfolding repeat_piece
-repeat_weighs low None None p w = omega arith
-repeat_weighs low None (Some a) p w = light_weighs (repeat_weight low None a.0) _ (Pattern.repeat low None p) (ap (repeat_weight low None) w.0)
-repeat_weighs low (Some high) a p w = go (high == 0) refl a w
+repeat_weighs low Endless None p w = omega arith
+repeat_weighs low Endless (Some a) p w = light_weighs (repeat_weight low Endless a.0) _ (Pattern.repeat low Endless p) (ap (repeat_weight low Endless) w.0)
+repeat_weighs low Sign None p w = omega arith
+repeat_weighs low Sign (Some a) p w = light_weighs (repeat_weight low Sign a.0) _ (Pattern.repeat low Sign p) (ap (repeat_weight low Sign) w.0)
+repeat_weighs low (Times high) a p w = go (high == 0) refl a w
   where
-    go : (b : Bool) → (high == 0) ≡ b → (c : Light) → Weighs c p → Weighs (cond b (Some (0, Tree.nothing)) (repeated_some low (Some high) c)) (Pattern.repeat low (Some high) p)
+    go : (b : Bool) → (high == 0) ≡ b → (c : Light) → Weighs c p → Weighs (cond b (Some (0, Tree.nothing)) (repeated_some low (Times high) c)) (Pattern.repeat low (Times high) p)
     go true e c v = (never_weighs low high (weight p) e, omega (arith, never_weighs low high (weight p) e))
     go false e None v = much low high (weight p) e v
-    go false e (Some c) v = light_weighs (repeat_weight low (Some high) c.0) _ (Pattern.repeat low (Some high) p) (ap (repeat_weight low (Some high)) v.0)
+    go false e (Some c) v = light_weighs (repeat_weight low (Times high) c.0) _ (Pattern.repeat low (Times high) p) (ap (repeat_weight low (Times high)) v.0)
 
 pieces_weigh : Agree Weighs (λ left cs. Unit {0}) (λ low high. Unit {0}) pieces patterns
 pieces_weigh = record {

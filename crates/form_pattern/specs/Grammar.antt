@@ -1,5 +1,6 @@
 -- The grammar of patterns over their tokens. The number says how deep groups may nest.
 use Rattle.std.specs.Prelude.{ℕ, suc, Bool, List, [], ◌∷◌, ◌++◌, Option}
+use Rattle.form_pattern.specs.declared.tokens.High.{High}
 use Rattle.form_pattern.specs.declared.groups.TheConstants.{DEEPEST}
 use Rattle.form_pattern.specs.declared.tokens.Chars.{Chars}
 use Rattle.form_pattern.specs.declared.tokens.Token.{Token}
@@ -17,7 +18,7 @@ mutual
     at_finish : (d : ℕ) → IsTerm d (token.Finish ∷ []) Pattern.finish
     looking_ahead : (d : ℕ) (absent : Bool) (ts : List Token) (p : Pattern) → IsWhole d ts p → IsTerm (suc d) (token.Ahead absent ∷ (ts ++ token.Close ∷ [])) (Pattern.ahead absent p)
     once : (d : ℕ) (ts : List Token) (p : Pattern) → IsAtom d ts p → IsTerm d ts p
-    repeated : (d : ℕ) (ts : List Token) (p : Pattern) (low : ℕ) (high : Option ℕ) → IsAtom d ts p → IsTerm d (ts ++ token.Quantifier low high ∷ []) (Pattern.repeat low high p)
+    repeated : (d : ℕ) (ts : List Token) (p : Pattern) (low : ℕ) (high : High) → IsAtom d ts p → IsTerm d (ts ++ token.Quantifier low high ∷ []) (Pattern.repeat low high p)
 
   pub data IsBranch : ℕ → List Token → Pattern → Type 0 where
     no_term : (d : ℕ) → IsBranch d [] Pattern.nothing

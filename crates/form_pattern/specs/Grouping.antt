@@ -1,5 +1,6 @@
 -- Tokens read from the left, with a stack of open groups; what is made of them is a parameter.
 use Rattle.std.specs.Prelude.{ℕ, nat_lt, Bool, List, [], ◌∷◌, length, Option, Some, None, if◌then◌else◌}
+use Rattle.form_pattern.specs.declared.tokens.High.{High}
 use Rattle.form_pattern.specs.declared.groups.TheConstants.{DEEPEST}
 use Rattle.form_pattern.specs.declared.tokens.Chars.{Chars}
 use Rattle.form_pattern.specs.declared.tokens.Token.{Token}
@@ -14,7 +15,7 @@ pub record Makes (A : Type 0) : Type 0 where
   pub one : ℕ → Chars → A
   pub next : A → A → A
   pub either : A → A → A
-  pub repeat : ℕ → Option ℕ → A → A
+  pub repeat : ℕ → High → A → A
   pub ahead : Bool → A → A
 
 -- an open group: the lookahead that it is, if it is one, the alternatives before, the branch so far
@@ -49,7 +50,7 @@ module _ {A : Type 0} (m : Makes A) where
   abbrev pub with_term : Level A → A → Level A
   with_term f t = record { ahead = f.ahead; before = f.before; branch = m.next (terms f) t; atom = None }
 
-  abbrev pub quantified : Level A → ℕ → Option ℕ → Option A → Option (Level A)
+  abbrev pub quantified : Level A → ℕ → High → Option A → Option (Level A)
   quantified f low high None = None
   quantified f low high (Some a) = Some (record { ahead = f.ahead; before = f.before; branch = m.next f.branch (m.repeat low high a); atom = None })
 

@@ -1,5 +1,7 @@
 -- Which stretches of a text a pattern matches, and which its tree does.
 use Rattle.std.specs.Prelude.{◌≡◌, ℕ, zero, suc, ◌+◌, ◌≤◌, Bool, true, false, ◌⊎◌, List, length, Option, Some, None, slice_get}
+use Rattle.form_pattern.specs.declared.tokens.High.{High}
+use Rattle.form_pattern.specs.declared.tokens.High.TheVariants.{Times, Endless, Sign}
 use Rattle.form_pattern.specs.Membership.{chars_have}
 use Rattle.form_pattern.specs.Pattern.{Pattern}
 use Rattle.form_pattern.specs.Pieces.{Tree}
@@ -14,9 +16,11 @@ abbrev pub Turns : ℕ → (ℕ → ℕ → Type 0) → ℕ → ℕ → Type 0
 Turns zero R i j = j ≡ i
 Turns (suc n) R i j = (k : ℕ) × R i k × Turns n R k j
 
-abbrev pub IsUpTo : ℕ → Option ℕ → Type 0
-IsUpTo n None = Unit {0}
-IsUpTo n (Some high) = n ≤ high
+-- so many are within a greatest count
+abbrev pub IsUpTo : ℕ → High → Type 0
+IsUpTo n (Times high) = n ≤ high
+IsUpTo n Endless = Unit {0}
+IsUpTo n Sign = Unit {0}
 
 abbrev pub Holds : Bool → Type 0 → Type 0
 Holds true A = A → ⊥

@@ -1,6 +1,8 @@
 -- What is made of the parts of a pattern: a tree without quantifiers, where it weighs at most 2,000.
 use Rattle.std.specs.Prelude.{ℕ, zero, suc, ◌+◌, ◌-◌, ◌==◌, nat_le, Bool, false, List, map, reverse, Option, Some, None, if◌then◌else◌}
 use Rattle.std.specs.Option.{option_map}
+use Rattle.form_pattern.specs.declared.tokens.High.{High}
+use Rattle.form_pattern.specs.declared.tokens.High.TheVariants.{Times, Endless, Sign}
 use Rattle.form_pattern.specs.declared.pieces.TheConstants.{HEAVIEST}
 use Rattle.form_pattern.specs.declared.nodes.Node.{Node}
 use Rattle.form_pattern.specs.declared.nodes.Seen.{Seen}
@@ -65,9 +67,10 @@ at_least zero a = maybe (many_tree a)
 at_least (suc n) a = next_tree (copies n a Tree.nothing) (many_tree a)
 
 -- `a{2,4}` is `aaa?a?`
-unfoldable pub repeated : ℕ → Option ℕ → Tree → Tree
-repeated low None a = at_least low a
-repeated low (Some high) a = copies (high - low) (maybe a) (copies low a Tree.nothing)
+unfoldable pub repeated : ℕ → High → Tree → Tree
+repeated low Endless a = at_least low a
+repeated low Sign a = at_least low a
+repeated low (Times high) a = copies (high - low) (maybe a) (copies low a Tree.nothing)
 
 -- ---- pieces: a weight and a tree, or none where the weight is above 2,000
 
@@ -91,18 +94,19 @@ either_piece (Some a) (Some b) = light (a.0 + b.0 + 1) (Tree.either a.1 b.1)
 either_piece (Some a) None = None
 either_piece None b = None
 
-abbrev pub repeated_light : ℕ → Option ℕ → ℕ × Tree → Light
+abbrev pub repeated_light : ℕ → High → ℕ × Tree → Light
 repeated_light low high a = light (repeat_weight low high a.0) (if a.0 == 0 then Tree.nothing else repeated low high a.1)
 
-abbrev pub is_never : Option ℕ → Bool
-is_never None = false
-is_never (Some high) = high == 0
+abbrev pub is_never : High → Bool
+is_never (Times high) = high == 0
+is_never Endless = false
+is_never Sign = false
 
-abbrev pub repeated_some : ℕ → Option ℕ → Light → Light
+abbrev pub repeated_some : ℕ → High → Light → Light
 repeated_some low high None = None
 repeated_some low high (Some a) = repeated_light low high a
 
-unfoldable pub repeat_piece : ℕ → Option ℕ → Light → Light
+unfoldable pub repeat_piece : ℕ → High → Light → Light
 repeat_piece low high a = if is_never high then Some (0, Tree.nothing) else repeated_some low high a
 
 unfoldable pub ahead_piece : Bool → Light → Light

@@ -2,6 +2,8 @@
 use Rattle.std.specs.Prelude.{ℕ, zero, suc, ◌==◌, ◌&&◌, nat_le, nat_lt, Bool, true, false, List, [], ◌∷◌, drop, length, Option, Some, None, if◌then◌else◌}
 use Rattle.std.specs.Option.{option_and_then, option_map, unwrap_or}
 use Rattle.std.specs.Char.{is_ascii_digit}
+use Rattle.form_pattern.specs.declared.tokens.High.{High}
+use Rattle.form_pattern.specs.declared.tokens.High.TheVariants.{Times, Endless, Sign}
 use Rattle.form_pattern.specs.declared.characters.Set.{Set}
 use Rattle.form_pattern.specs.declared.characters.Letter.{Letter}
 use Rattle.form_pattern.specs.declared.characters.Letter.TheVariants.{Character, InClass, Null, Byte, Unicode, Other}
@@ -124,22 +126,22 @@ opening (c ∷ d ∷ cs) = if c == 63 then opening_with d cs else Some (Open, c 
 opening (c ∷ []) = if c == 63 then None else Some (Open, c ∷ [])
 opening [] = Some (Open, [])
 
-unfoldable pub lazily : ℕ → Option ℕ → List ℕ → Token × List ℕ
+unfoldable pub lazily : ℕ → High → List ℕ → Token × List ℕ
 lazily low high text = (Quantifier low high, unwrap_or (after 63 text) text)
 
 abbrev pub bounds_closed : ℕ → ℕ → List ℕ → Option (Token × List ℕ)
 bounds_closed low high [] = None
-bounds_closed low high (c ∷ cs) = if c == 125 then (if nat_lt high low then None else Some (lazily low (Some high) cs)) else None
+bounds_closed low high (c ∷ cs) = if c == 125 then (if nat_lt high low then None else Some (lazily low (Times high) cs)) else None
 
 unfoldable pub upper_bound : ℕ → List ℕ → Option (Token × List ℕ)
 upper_bound low [] = None
 upper_bound low (c ∷ cs) =
-    if c == 125 then Some (lazily low None cs)
+    if c == 125 then Some (lazily low Endless cs)
     else option_and_then (λ r. bounds_closed low r.0 r.1) (number 10 MOST (c ∷ cs))
 
 abbrev pub bounds_from : ℕ → List ℕ → Option (Token × List ℕ)
 bounds_from low [] = None
-bounds_from low (c ∷ cs) = if c == 125 then Some (lazily low (Some low) cs) else if c == 44 then upper_bound low cs else None
+bounds_from low (c ∷ cs) = if c == 125 then Some (lazily low (Times low) cs) else if c == 44 then upper_bound low cs else None
 
 unfoldable pub bounds : List ℕ → Option (Token × List ℕ)
 bounds text = option_and_then (λ r. bounds_from r.0 r.1) (number 10 MOST text)
@@ -159,9 +161,9 @@ sign_token c cs =
     else if c == 41 then Some (Close, cs)
     else if c == 40 then opening cs
     else if c == 46 then Some (token_of.Chars Any, cs)
-    else if c == 42 then Some (lazily 0 None cs)
-    else if c == 43 then Some (lazily 1 None cs)
-    else if c == 63 then Some (lazily 0 (Some 1) cs)
+    else if c == 42 then Some (lazily 0 Sign cs)
+    else if c == 43 then Some (lazily 1 Sign cs)
+    else if c == 63 then Some (lazily 0 (Times 1) cs)
     else if c == 123 then bounds cs
     else if c == 92 then escaped (c ∷ cs)
     else None

@@ -3,6 +3,8 @@
 use Rattle.std.specs.Prelude.{◌≡◌, ℕ, ◌≤◌, Bool, true, false, List, [], ◌∷◌, ◌++◌, length, Option, Some, None}
 use Rattle.std.specs.Str.Parse.{AllDigits, IsNumeral, digits_value}
 use Rattle.std.specs.Char.{is_ascii_digit}
+use Rattle.form_pattern.specs.declared.tokens.High.{High}
+use Rattle.form_pattern.specs.declared.tokens.High.TheVariants.{Times, Endless, Sign}
 use Rattle.form_pattern.specs.declared.characters.Set.{Set}
 use Rattle.form_pattern.specs.declared.characters.Letter.TheVariants.{Character, InClass, Null, Byte, Unicode}
 use Rattle.form_pattern.specs.declared.characters.Letter.TheVariants as letter
@@ -66,13 +68,13 @@ pub data IsClass : List ℕ → Class → List ℕ → Type 0 where
   listed : (text : List ℕ) (is : List Item) (rest : List ℕ) → begins 94 text ≡ false → IsItems text is rest → IsClass (91 ∷ text) (record { negated = false; items = is }) rest
 
 -- A quantifier with its bounds, without the `?` that may follow.
-pub data IsQuantifier : List ℕ → ℕ → Option ℕ → List ℕ → Type 0 where
-  star : (rest : List ℕ) → IsQuantifier (42 ∷ rest) 0 None rest
-  plus : (rest : List ℕ) → IsQuantifier (43 ∷ rest) 1 None rest
-  question : (rest : List ℕ) → IsQuantifier (63 ∷ rest) 0 (Some 1) rest
-  exactly : (text : List ℕ) (n : ℕ) (rest : List ℕ) → IsNumber 10 MOST text n (125 ∷ rest) → IsQuantifier (123 ∷ text) n (Some n) rest
-  at_least : (text : List ℕ) (n : ℕ) (rest : List ℕ) → IsNumber 10 MOST text n (44 ∷ 125 ∷ rest) → IsQuantifier (123 ∷ text) n None rest
-  between : (text : List ℕ) (n : ℕ) (mid : List ℕ) (m : ℕ) (rest : List ℕ) → IsNumber 10 MOST text n (44 ∷ mid) → IsNumber 10 MOST mid m (125 ∷ rest) → n ≤ m → IsQuantifier (123 ∷ text) n (Some m) rest
+pub data IsQuantifier : List ℕ → ℕ → High → List ℕ → Type 0 where
+  star : (rest : List ℕ) → IsQuantifier (42 ∷ rest) 0 Sign rest
+  plus : (rest : List ℕ) → IsQuantifier (43 ∷ rest) 1 Sign rest
+  question : (rest : List ℕ) → IsQuantifier (63 ∷ rest) 0 (Times 1) rest
+  exactly : (text : List ℕ) (n : ℕ) (rest : List ℕ) → IsNumber 10 MOST text n (125 ∷ rest) → IsQuantifier (123 ∷ text) n (Times n) rest
+  at_least : (text : List ℕ) (n : ℕ) (rest : List ℕ) → IsNumber 10 MOST text n (44 ∷ 125 ∷ rest) → IsQuantifier (123 ∷ text) n Endless rest
+  between : (text : List ℕ) (n : ℕ) (mid : List ℕ) (m : ℕ) (rest : List ℕ) → IsNumber 10 MOST text n (44 ∷ mid) → IsNumber 10 MOST mid m (125 ∷ rest) → n ≤ m → IsQuantifier (123 ∷ text) n (Times m) rest
 
 -- A `?` behind a quantifier belongs to it, and a `?` behind `(` to what opens the group.
 pub data IsToken : List ℕ → Token → List ℕ → Type 0 where
@@ -84,8 +86,8 @@ pub data IsToken : List ℕ → Token → List ℕ → Type 0 where
   group_alone : (rest : List ℕ) → IsToken (40 ∷ 63 ∷ 58 ∷ rest) token_of.Open rest
   ahead : (rest : List ℕ) → IsToken (40 ∷ 63 ∷ 61 ∷ rest) (token_of.Ahead false) rest
   not_ahead : (rest : List ℕ) → IsToken (40 ∷ 63 ∷ 33 ∷ rest) (token_of.Ahead true) rest
-  greedy : (text : List ℕ) (low : ℕ) (high : Option ℕ) (rest : List ℕ) → IsQuantifier text low high rest → begins 63 rest ≡ false → IsToken text (token_of.Quantifier low high) rest
-  lazy : (text : List ℕ) (low : ℕ) (high : Option ℕ) (rest : List ℕ) → IsQuantifier text low high (63 ∷ rest) → IsToken text (token_of.Quantifier low high) rest
+  greedy : (text : List ℕ) (low : ℕ) (high : High) (rest : List ℕ) → IsQuantifier text low high rest → begins 63 rest ≡ false → IsToken text (token_of.Quantifier low high) rest
+  lazy : (text : List ℕ) (low : ℕ) (high : High) (rest : List ℕ) → IsQuantifier text low high (63 ∷ rest) → IsToken text (token_of.Quantifier low high) rest
   any : (rest : List ℕ) → IsToken (46 ∷ rest) (token_of.Chars chars_of.Any) rest
   plain : (c : ℕ) (rest : List ℕ) → is_plain c ≡ true → IsToken (c ∷ rest) (token_of.Chars (chars_of.One c)) rest
   escape : (text : List ℕ) (c : ℕ) (rest : List ℕ) → IsEscape false text c rest → IsToken text (token_of.Chars (chars_of.One c)) rest

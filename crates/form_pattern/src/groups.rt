@@ -6,7 +6,7 @@ ghost use Rattle.form_pattern.specs.Pieces.{piece_of, level_of, levels, pieces};
 
 use crate::nodes::Node;
 use crate::pieces::{Piece, ahead_piece, either_piece, next_piece, repeat_piece};
-use crate::tokens::Token;
+use crate::tokens::{High, Token};
 use std::alloc::{AllocError, Global};
 
 /// How deep groups may nest.
@@ -106,7 +106,7 @@ fn quantified(
     alloc: Global,
     frame: Frame,
     low: u32,
-    high: Option<u32>,
+    high: High,
 ) -> Result<Option<Frame>, AllocError>
     ensures { IfOk result (λ o. option_map level_of o ≡ quantified pieces (level_of frame) low high (level_of frame).atom) }
 {

@@ -1,7 +1,7 @@
 //! Matching: the value is read once, from its end, and takes no memory. At each place the tree
 //! holds what each of its parts can do there, which follows from what they could do at the place
 //! behind; a place visits each node once.
-ghost use Rattle.std.specs.Prelude.{◌≡◌, ◌||◌, ◌↔◌, IsTrue, length};
+ghost use Rattle.std.specs.Prelude.{◌≡◌, ◌||◌, ◌↔◌, IsTrue, false, length};
 ghost use Rattle.std.specs.Str.{chars};
 ghost use Rattle.form_pattern.specs.Steps.{bare, table_has, goes, flip, see, step, see_next, see_either};
 ghost use Rattle.form_pattern.specs.Matching.{passes, Matches};
@@ -9,12 +9,6 @@ ghost use Rattle.form_pattern.specs.Pieces.{tree_of};
 
 use crate::nodes::{Node, Seen};
 use regex_class::Class as Ranges;
-
-// What the empty stretch can do.
-const EMPTY: Seen = Seen {
-    empty: true,
-    on: false,
-};
 
 // Whether the character is one of the leaf that has so many tokens behind it.
 fn has(tables: &[Ranges], left: usize, here: Option<u32>) -> bool
@@ -34,6 +28,20 @@ fn goes(seen: Seen, k: bool) -> bool
     ensures { result ≡ goes seen k }
 {
     (seen.empty && k) || seen.on
+}
+
+// What matches the empty stretch, or nothing.
+fn still(empty: bool) -> Seen
+    ensures { result ≡ record { empty = empty; on = false } }
+{
+    Seen { empty, on: false }
+}
+
+// What matches one character, or nothing.
+fn character(on: bool) -> Seen
+    ensures { result ≡ record { empty = false; on = on } }
+{
+    Seen { empty: false, on }
 }
 
 fn see_next(a: Seen, b: Seen) -> Seen
@@ -82,53 +90,29 @@ fn step(
     ensures notes { tree_of node.new ≡ step (table_has tables.now) first here k (tree_of node.old) }
 {
     match node {
-        Node::Nothing => see_next(EMPTY, then),
-        Node::One(left) => see_next(
-            Seen {
-                empty: false,
-                on: k && has(tables, *left, here),
-            },
-            then,
-        ),
-        Node::Start => see_next(
-            Seen {
-                empty: first,
-                on: false,
-            },
-            then,
-        ),
-        Node::Finish => see_next(
-            Seen {
-                empty: here.is_none(),
-                on: false,
-            },
-            then,
-        ),
+        Node::Nothing => then,
+        Node::One(left) => see_next(character(k && has(tables, *left, here)), then),
+        Node::Start => see_next(still(first), then),
+        Node::Finish => see_next(still(here.is_none()), then),
         Node::Next(a, b, behind) => {
             let before = goes(*behind, k);
-            let b = step(tables, b, first, here, k, EMPTY);
+            let b = step(tables, b, first, here, k, still(true));
             *behind = b;
             step(tables, a, first, here, before, see_next(b, then))
         }
         Node::Either(a, b) => {
-            let a = step(tables, a, first, here, k, EMPTY);
-            let b = step(tables, b, first, here, k, EMPTY);
+            let a = step(tables, a, first, here, k, still(true));
+            let b = step(tables, b, first, here, k, still(true));
             see_next(see_either(a, b), then)
         }
         Node::Many(a, round) => {
-            let a = step(tables, a, first, here, either(k, *round), EMPTY);
+            let a = step(tables, a, first, here, either(k, *round), still(true));
             *round = a.on;
             see_next(a, then)
         }
         Node::Ahead(absent, a) => {
-            let a = step(tables, a, first, here, true, EMPTY);
-            see_next(
-                Seen {
-                    empty: flip(*absent, goes(a, true)),
-                    on: false,
-                },
-                then,
-            )
+            let a = step(tables, a, first, here, true, still(true));
+            see_next(still(flip(*absent, goes(a, true))), then)
         }
     }
 }
@@ -138,7 +122,7 @@ fn place(tables: &[Ranges], node: &mut Node, first: bool, here: Option<u32>, k: 
     ensures seen { result ≡ see (table_has tables.now) first here k (tree_of node.old) }
     ensures notes { tree_of node.new ≡ step (table_has tables.now) first here k (tree_of node.old) }
 {
-    step(tables, node, first, here, k, EMPTY)
+    step(tables, node, first, here, k, still(true))
 }
 
 /// Whether the tree matches the whole value.

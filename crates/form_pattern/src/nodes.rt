@@ -1,7 +1,8 @@
 //! Patterns without quantifiers, as trees.
 ghost use Rattle.std.specs.Prelude.{◌≡◌, ◌-◌, IfOk};
-ghost use Rattle.form_pattern.specs.Pieces.{tree_of, next_tree, either_tree, many_tree, copies, repeated};
+ghost use Rattle.form_pattern.specs.Pieces.{tree_of, next_tree, either_tree, many_tree, copies, at_least, repeated};
 
+use crate::tokens::High;
 use std::alloc::{AllocError, Global};
 
 /// What a node can do at a place of a value.
@@ -95,25 +96,31 @@ fn copies(alloc: Global, count: u32, node: &Node, front: Node) -> Result<Node, A
     Ok(all)
 }
 
+// At least so many copies of a tree.
+fn at_least(alloc: Global, low: u32, node: Node) -> Result<Node, AllocError>
+    ensures { IfOk result (λ n. tree_of n ≡ at_least low (tree_of node)) }
+{
+    if low == 0 {
+        let some = many(alloc, node)?;
+        return either(alloc, some, Node::Nothing);
+    }
+    let front = copies(alloc, low - 1, &node, Node::Nothing)?;
+    let last = many(alloc, node)?;
+    next(alloc, front, last)
+}
+
 /// A tree with a quantifier.
 #[tactic(auto, unfolding(crate::specs::Pieces::repeated))]
-pub fn repeated(alloc: Global, low: u32, high: Option<u32>, node: Node) -> Result<Node, AllocError>
+pub fn repeated(alloc: Global, low: u32, high: High, node: Node) -> Result<Node, AllocError>
     ensures { IfOk result (λ n. tree_of n ≡ repeated low high (tree_of node)) }
 {
     match high {
-        Some(high) => {
+        High::Times(high) => {
             let front = copies(alloc, low, &node, Node::Nothing)?;
             let some = either(alloc, node, Node::Nothing)?;
             copies(alloc, high.saturating_sub(low), &some, front)
         }
-        None => {
-            if low == 0 {
-                let some = many(alloc, node)?;
-                return either(alloc, some, Node::Nothing);
-            }
-            let front = copies(alloc, low - 1, &node, Node::Nothing)?;
-            let last = many(alloc, node)?;
-            next(alloc, front, last)
-        }
+        High::Endless => at_least(alloc, low, node),
+        High::Sign => at_least(alloc, low, node),
     }
 }

@@ -4,6 +4,7 @@ ghost use Rattle.form_pattern.specs.Pattern.{repeat_weight};
 ghost use Rattle.form_pattern.specs.Pieces.{tree_of, piece_of, joined, next_piece, either_piece, is_never, repeated_light, repeat_piece, ahead_piece};
 
 use crate::nodes::{Node, either, next, repeated};
+use crate::tokens::High;
 use std::alloc::{AllocError, Global};
 
 /// The greatest weight of a pattern that compiles.
@@ -70,22 +71,24 @@ pub fn either_piece(alloc: Global, a: Piece, b: Piece) -> Result<Piece, AllocErr
 }
 
 // The weight of a quantified atom.
-fn repeat_weight(low: u32, high: Option<u32>, weight: u32) -> u64
+fn repeat_weight(low: u32, high: High, weight: u32) -> u64
     ensures { result ≡ repeat_weight low high weight }
 {
     let weight = weight as u64;
     match high {
-        Some(high) => high as u64 * weight + high.saturating_sub(low) as u64,
-        None => low as u64 * weight + weight + 1,
+        High::Times(high) => high as u64 * weight + high.saturating_sub(low) as u64,
+        High::Endless => low as u64 * weight + weight + 1,
+        High::Sign => weight + 1,
     }
 }
 
-fn is_never(high: Option<u32>) -> bool
+fn is_never(high: High) -> bool
     ensures { result ≡ is_never high }
 {
     match high {
-        Some(high) => high == 0,
-        None => false,
+        High::Times(high) => high == 0,
+        High::Endless => false,
+        High::Sign => false,
     }
 }
 
@@ -93,7 +96,7 @@ fn is_never(high: Option<u32>) -> bool
 fn repeated_light(
     alloc: Global,
     low: u32,
-    high: Option<u32>,
+    high: High,
     before: u32,
     node: Node,
 ) -> Result<Piece, AllocError>
@@ -112,12 +115,7 @@ fn repeated_light(
 
 /// A piece with a quantifier. `{0}` makes a heavy piece light again.
 #[tactic(auto, unfolding(crate::specs::Pieces::repeat_piece))]
-pub fn repeat_piece(
-    alloc: Global,
-    low: u32,
-    high: Option<u32>,
-    piece: Piece,
-) -> Result<Piece, AllocError>
+pub fn repeat_piece(alloc: Global, low: u32, high: High, piece: Piece) -> Result<Piece, AllocError>
     ensures { IfOk result (λ p. piece_of p ≡ repeat_piece low high (piece_of piece)) }
 {
     if is_never(high) {

@@ -21,6 +21,17 @@ pub enum Chars {
     Class(Class),
 }
 
+/// How often at most a quantified atom may stand.
+#[derive(Clone, Copy)]
+pub enum High {
+    /// So many times, as in `{n}`, `{n,m}` and `?`.
+    Times(u32),
+    /// Any number of times, as in `{n,}`.
+    Endless,
+    /// Any number of times, as in `*` and `+`, which have a weight of their own.
+    Sign,
+}
+
 #[derive(Drop)]
 pub enum Token {
     /// `^`
@@ -36,7 +47,7 @@ pub enum Token {
     /// `)`
     Close,
     /// The least and the greatest count; a `?` behind it belongs to it.
-    Quantifier(u32, Option<u32>),
+    Quantifier(u32, High),
     Chars(Chars),
 }
 
@@ -64,7 +75,7 @@ fn opening(text: &[char]) -> Option<(Token, &[char])>
 
 // A quantifier: a `?` behind it changes nothing.
 #[tactic(auto, unfolding(crate::specs::Reading::lazily))]
-fn lazily(low: u32, high: Option<u32>, text: &[char]) -> (Token, &[char])
+fn lazily(low: u32, high: High, text: &[char]) -> (Token, &[char])
     ensures { (result.0, result.1.now) ≡ lazily low high text.now }
 {
     (
@@ -82,7 +93,7 @@ fn upper_bound(low: u32, text: &[char]) -> Option<(Token, &[char])>
         return None;
     };
     if *c == '}' {
-        return Some(lazily(low, None, rest));
+        return Some(lazily(low, High::Endless, rest));
     }
     let Some((high, rest)) = number(text, 10, MOST) else {
         return None;
@@ -96,7 +107,7 @@ fn upper_bound(low: u32, text: &[char]) -> Option<(Token, &[char])>
     if high < low {
         return None;
     }
-    Some(lazily(low, Some(high), rest))
+    Some(lazily(low, High::Times(high), rest))
 }
 
 // What stands behind `{`.
@@ -111,7 +122,7 @@ fn bounds(text: &[char]) -> Option<(Token, &[char])>
         return None;
     };
     match *c {
-        '}' => Some(lazily(low, Some(low), rest)),
+        '}' => Some(lazily(low, High::Times(low), rest)),
         ',' => upper_bound(low, rest),
         _ => None,
     }
@@ -152,9 +163,9 @@ fn small_token(text: &[char]) -> Option<(Token, &[char])>
         ')' => Some((Token::Close, rest)),
         '(' => opening(rest),
         '.' => Some((Token::Chars(Chars::Any), rest)),
-        '*' => Some(lazily(0, None, rest)),
-        '+' => Some(lazily(1, None, rest)),
-        '?' => Some(lazily(0, Some(1), rest)),
+        '*' => Some(lazily(0, High::Sign, rest)),
+        '+' => Some(lazily(1, High::Sign, rest)),
+        '?' => Some(lazily(0, High::Times(1), rest)),
         '{' => bounds(rest),
         '\\' => escaped(text),
         _ => None,

@@ -1,5 +1,5 @@
 -- A light piece is made exactly of the texts that compile.
-use Rattle.std.proofs.Common.{◌≡◌, Bool, ℕ, ◌<◌, List, length, Option, Some, None, refl, sym, ap, ◌∙◌, subst, arith}
+use Rattle.std.proofs.Common.{◌≡◌, ℕ, ◌<◌, List, length, Option, Some, None, refl, sym, ap, ◌∙◌, subst, arith}
 use Rattle.std.specs.Option.{option_and_then}
 use Rattle.std.proofs.lemmas.Option.{option_and_then_some, none-some, same_Some}
 use Rattle.form_pattern.specs.declared.pieces.TheConstants.{HEAVIEST}

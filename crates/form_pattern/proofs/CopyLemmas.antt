@@ -1,5 +1,5 @@
 -- A tree of copies matches what a quantifier says.
-use Rattle.std.proofs.Common.{◌≡◌, ℕ, zero, suc, ◌+◌, ◌-◌, ◌≤◌, Bool, true, false, inl, inr, List, Option, Some, None, refl, sym, subst, arith, add-one, zero-add, suc-add}
+use Rattle.std.proofs.Common.{◌≡◌, ℕ, zero, suc, ◌+◌, ◌-◌, ◌≤◌, Bool, true, false, inl, inr, List, refl, sym, subst, arith, add-one, zero-add, suc-add}
 use Rattle.form_pattern.specs.declared.tokens.High.{High}
 use Rattle.form_pattern.specs.declared.tokens.High.TheVariants.{Times, Endless, Sign}
 use Rattle.form_pattern.specs.Matching.{Turns, IsUpTo, Rounds, last, more, Holds, Matches}

@@ -1,5 +1,5 @@
 -- The laws that other crates build on, under names that stay.
-use Rattle.std.proofs.Common.{◌≡◌, ℕ, Bool, true, false, ◌≤◌, List, Some}
+use Rattle.std.proofs.Common.{◌≡◌, ℕ, true, List}
 use lib.Utf8.{scalars}
 use Rattle.form_pattern.specs.Pattern.{Pattern}
 use Rattle.form_pattern.specs.Grammar.{IsPattern}

@@ -9,7 +9,7 @@ use Rattle.form_pattern.specs.declared.tokens.Token.{Token}
 use Rattle.form_pattern.specs.Pattern.{Pattern, weight, repeat_weight}
 use Rattle.form_pattern.specs.Membership.{chars_have}
 use Rattle.form_pattern.specs.Matching.{passes, Turns, IsUpTo, Means, Matches}
-use Rattle.form_pattern.specs.Likeness.{Known, Fits, MatchAlike}
+use Rattle.form_pattern.specs.Likeness.{Fits, MatchAlike}
 use Rattle.form_pattern.specs.Grouping.{read}
 use Rattle.form_pattern.specs.Trees.{patterns}
 use Rattle.form_pattern.specs.Pieces.{Tree, next_tree, Light, light, joined, next_piece, either_piece, repeated, repeated_some, repeat_piece, ahead_piece, pieces}

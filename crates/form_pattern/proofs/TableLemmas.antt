@@ -1,5 +1,5 @@
 -- The tables tell the characters of each token.
-use Rattle.std.proofs.Common.{◌≡◌, false, ℕ, zero, suc, ◌-◌, ◌<◌, ◌≤◌, List, [], ◌∷◌, ◌++◌, length, drop, get_or, slice_get, Option, Some, None, refl, sym, ap, ◌∙◌, subst, arith, append_assoc, append-nil, drop-cons, length-append}
+use Rattle.std.proofs.Common.{◌≡◌, false, ℕ, zero, suc, ◌-◌, ◌<◌, ◌≤◌, List, [], ◌∷◌, ◌++◌, length, drop, get_or, slice_get, Some, None, refl, sym, ap, ◌∙◌, subst, arith, append_assoc, append-nil, drop-cons, length-append}
 use Rattle.regex_class.specs.declared.Class.{Class}
 use Rattle.regex_class.specs.Ranges.{in_ranges}
 use Rattle.form_pattern.specs.declared.tokens.High.{High}

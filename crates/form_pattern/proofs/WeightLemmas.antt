@@ -1,5 +1,5 @@
 -- The reader makes a piece of each pattern; it is light exactly where the pattern is.
-use Rattle.std.proofs.Common.{◌≡◌, ℕ, zero, suc, ◌==◌, ◌+◌, ◌-◌, ◌*◌, ◌<◌, ◌≤◌, nat_le, Bool, true, false, cond, List, [], ◌∷◌, length, Option, Some, None, refl, ap, arith, true≢false, zero-mul, suc-mul}
+use Rattle.std.proofs.Common.{◌≡◌, ℕ, zero, suc, ◌==◌, ◌+◌, ◌-◌, ◌*◌, ◌<◌, ◌≤◌, nat_le, Bool, true, false, cond, List, [], ◌∷◌, length, Some, None, refl, ap, arith, true≢false, zero-mul, suc-mul}
 use Rattle.std.proofs.lemmas.Bool.{leb-true, leb-false, eqb-true}
 use Rattle.form_pattern.specs.declared.tokens.High.{High}
 use Rattle.form_pattern.specs.declared.tokens.High.TheVariants.{Times, Endless, Sign}

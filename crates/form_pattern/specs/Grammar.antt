@@ -1,5 +1,5 @@
 -- The grammar of patterns over their tokens. The number says how deep groups may nest.
-use Rattle.std.specs.Prelude.{ℕ, suc, Bool, List, [], ◌∷◌, ◌++◌, Option}
+use Rattle.std.specs.Prelude.{ℕ, suc, Bool, List, [], ◌∷◌, ◌++◌}
 use Rattle.form_pattern.specs.declared.tokens.High.{High}
 use Rattle.form_pattern.specs.declared.groups.TheConstants.{DEEPEST}
 use Rattle.form_pattern.specs.declared.tokens.Chars.{Chars}

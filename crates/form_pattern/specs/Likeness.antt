@@ -1,5 +1,5 @@
 -- When what the code holds stands for a pattern.
-use Rattle.std.specs.Prelude.{◌≡◌, ℕ, ◌≤◌, Bool, List, Option, Some, slice_get}
+use Rattle.std.specs.Prelude.{◌≡◌, ℕ, ◌≤◌, Bool, List, Some, slice_get}
 use Rattle.regex_class.specs.declared.Class.{Class}
 use Rattle.form_pattern.specs.declared.tokens.Chars.{Chars}
 use Rattle.form_pattern.specs.Membership.{chars_have}

@@ -1,6 +1,8 @@
 -- Which text spells which part of a pattern: `IsX text x rest` says that the text begins with a
 -- spelling of x, behind which the rest stands.
-use Rattle.std.specs.Prelude.{◌≡◌, ℕ, ◌≤◌, Bool, true, false, List, [], ◌∷◌, ◌++◌, length, Option, Some, None}
+-- The characters stand as their numbers: 33 `!`, 36 `$`, 40 `(`, 41 `)`, 42 `*`, 43 `+`, 44 `,`, 45 `-`, 46 `.`, 58 `:`,
+-- 61 `=`, 63 `?`, 91 `[`, 92 `\`, 93 `]`, 94 `^`, 123 `{`, 124 `|`, 125 `}`.
+use Rattle.std.specs.Prelude.{◌≡◌, ℕ, ◌≤◌, Bool, true, false, List, [], ◌∷◌, ◌++◌, length}
 use Rattle.std.specs.Str.Parse.{AllDigits, IsNumeral, digits_value}
 use Rattle.std.specs.Char.{is_ascii_digit}
 use Rattle.form_pattern.specs.declared.tokens.High.{High}

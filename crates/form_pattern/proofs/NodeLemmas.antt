@@ -36,6 +36,9 @@ see_alone false false = refl
 pub alone : (r v : Seen) → Alone r v → r ≡ v
 alone r v is = is ∙ see_alone v.empty v.on
 
+pub lone : (r v : Seen) → r ≡ v → Alone r v
+lone r v is = is ∙ sym (see_alone v.empty v.on)
+
 see_assoc : (a b c d : Bool) (v : Seen) → see_next (record { empty = a; on = b }) (see_next (record { empty = c; on = d }) v) ≡ see_next (see_next (record { empty = a; on = b }) (record { empty = c; on = d })) v
 see_assoc true true c d v = refl
 see_assoc true false c true v = refl

@@ -1,7 +1,7 @@
 //! Matching: the value is read once, from its end, and takes no memory. At each place the tree
 //! holds what each of its parts can do there, which follows from what they could do at the place
 //! behind; a place visits each node once.
-ghost use Rattle.std.specs.Prelude.{◌≡◌, ◌||◌, ◌↔◌, IsTrue, false, length};
+ghost use Rattle.std.specs.Prelude.{◌≡◌, ◌||◌, ◌↔◌, IfSome, IsTrue, false, length};
 ghost use Rattle.std.specs.Str.{chars};
 ghost use Rattle.form_pattern.specs.Steps.{bare, table_has, goes, flip, see, step, see_next, see_either};
 ghost use Rattle.form_pattern.specs.Matching.{passes, Matches};
@@ -75,6 +75,34 @@ fn flip(absent: bool, found: bool) -> bool
     found != absent
 }
 
+// What a node with no others in it can do; none for any other node. Such a node notes nothing.
+fn leaf(tables: &[Ranges], node: &Node, first: bool, here: Option<u32>, k: bool) -> Option<Seen>
+    ensures seen { IfSome result (λ s. s ≡ see (table_has tables.now) first here k (tree_of node.now)) }
+    ensures same { IfSome result (λ s. step (table_has tables.now) first here k (tree_of node.now) ≡ tree_of node.now) }
+{
+    match node {
+        Node::Nothing => Some(still(true)),
+        Node::Start => Some(still(first)),
+        Node::Finish => Some(still(here.is_none())),
+        Node::One(left) => Some(character(k && has(tables, *left, here))),
+        _ => None,
+    }
+}
+
+// The same, and of two such nodes as alternatives: what sequences are mostly made of is answered
+// with no call of `step`.
+fn quick(tables: &[Ranges], node: &Node, first: bool, here: Option<u32>, k: bool) -> Option<Seen>
+    ensures seen { IfSome result (λ s. s ≡ see (table_has tables.now) first here k (tree_of node.now)) }
+    ensures same { IfSome result (λ s. step (table_has tables.now) first here k (tree_of node.now) ≡ tree_of node.now) }
+{
+    let Node::Either(a, b) = node else {
+        return leaf(tables, node, first, here, k);
+    };
+    let a = leaf(tables, a, first, here, k)?;
+    let b = leaf(tables, b, first, here, k)?;
+    Some(see_either(a, b))
+}
+
 // Goes one place to the front, and says what the node and what stands behind it can do there; k
 // says whether at the place behind the end could be reached from behind the node. Of a sequence the
 // first part is the last call, so that a long one is gone over as by a loop.
@@ -96,6 +124,10 @@ fn step(
         Node::Finish => see_next(still(here.is_none()), then),
         Node::Next(a, b, behind) => {
             let before = goes(*behind, k);
+            if let Some(seen) = quick(tables, b, first, here, k) {
+                *behind = seen;
+                return step(tables, a, first, here, before, see_next(seen, then));
+            }
             let b = step(tables, b, first, here, k, still(true));
             *behind = b;
             step(tables, a, first, here, before, see_next(b, then))

@@ -1,21 +1,37 @@
 use Rattle.std.specs.Box.{with_value}
-use Rattle.form_pattern.specs.Steps.{table_has}
-use Rattle.form_pattern.proofs.NodeLemmas.{tree-Either, tree-Ahead, step-Next, step-Many, seen-Next, seen-Either, seen-Many, seen-Ahead}
+use Rattle.std.proofs.Common.{sym}
+use Rattle.form_pattern.specs.Pieces.{tree_of}
+use Rattle.form_pattern.specs.Steps.{see, table_has}
+use Rattle.form_pattern.proofs.NodeLemmas.{lone, tree-Either, tree-Ahead, step-Next, step-Many, seen-Next, seen-Either, seen-Many, seen-Ahead}
 use Rattle.form_pattern.proofs.matching.+step.Goals as goal
 
-pub returns-in-Next-clause-seen : goal.returns-in-Next-clause-seen
-returns-in-Next-clause-seen t c =
-    seen-Next (table_has c.args.tables.now) c.args.first c.args.here c.args.k c.args.node.now c.in-Next.a c.in-Next.b c.in-Next.behind c.step-b.result c.see_next-in-Next.result c.step.result c.args.then c.in-Next.is
-    (simp (c.step-b.ensures.seen, c.still-in-Next.ensures, c.deref_mut.ensures.value))
-    c.see_next-in-Next.ensures
-    (simp (c.step.ensures.seen, c.goes-before.ensures, c.deref_mut-in-Next.ensures.value))
+pub returns-in-Some-clause-seen : goal.returns-in-Some-clause-seen
+returns-in-Some-clause-seen t c =
+    seen-Next (table_has c.args.tables.now) c.args.first c.args.here c.args.k c.args.node.now c.in-Next.a c.in-Next.b c.in-Next.behind c.in-Some.seen c.see_next-in-Some.result c.step.result c.args.then c.in-Next.is
+    (lone c.in-Some.seen (see (table_has c.args.tables.now) c.args.first c.args.here c.args.k (tree_of c.in-Next.b.value)) (simp (c.in-Some.ensures.seen, c.deref.ensures)))
+    c.see_next-in-Some.ensures
+    (simp (c.step.ensures.seen, c.goes-before.ensures, c.deref_mut.ensures.value))
 
-pub returns-in-Next-clause-notes : goal.returns-in-Next-clause-notes
-returns-in-Next-clause-notes t c =
-    step-Next (table_has c.args.tables.now) c.args.first c.args.here c.args.k c.args.node.now c.in-Next.a c.in-Next.b (with_value c.in-Next.a c.step.new.node) (with_value c.in-Next.b c.step-b.new.node) c.in-Next.behind c.step-b.result c.in-Next.is
-    (simp (c.step.ensures.notes, c.goes-before.ensures, c.deref_mut-in-Next.ensures.value))
-    (simp (c.step-b.ensures.notes, c.deref_mut.ensures.value))
-    (simp (c.step-b.ensures.seen, c.still-in-Next.ensures, c.deref_mut.ensures.value))
+pub returns-in-Some-clause-notes : goal.returns-in-Some-clause-notes
+returns-in-Some-clause-notes t c =
+    step-Next (table_has c.args.tables.now) c.args.first c.args.here c.args.k c.args.node.now c.in-Next.a c.in-Next.b (with_value c.in-Next.a c.step.new.node) c.in-Next.b c.in-Next.behind c.in-Some.seen c.in-Next.is
+    (simp (c.step.ensures.notes, c.goes-before.ensures, c.deref_mut.ensures.value))
+    (sym (rw c.deref.ensures at c.in-Some.ensures.same))
+    (lone c.in-Some.seen (see (table_has c.args.tables.now) c.args.first c.args.here c.args.k (tree_of c.in-Next.b.value)) (simp (c.in-Some.ensures.seen, c.deref.ensures)))
+
+pub returns-in_default-clause-seen : goal.returns-in_default-clause-seen
+returns-in_default-clause-seen t c =
+    seen-Next (table_has c.args.tables.now) c.args.first c.args.here c.args.k c.args.node.now c.in-Next.a c.in-Next.b c.in-Next.behind c.step-b.result c.see_next-in-Next.result c.step-in-Next.result c.args.then c.in-Next.is
+    (simp (c.step-b.ensures.seen, c.still-in-Next.ensures, c.deref_mut-in-Next.ensures.value))
+    c.see_next-in-Next.ensures
+    (simp (c.step-in-Next.ensures.seen, c.goes-before.ensures, c.deref_mut-in-Next-2.ensures.value))
+
+pub returns-in_default-clause-notes : goal.returns-in_default-clause-notes
+returns-in_default-clause-notes t c =
+    step-Next (table_has c.args.tables.now) c.args.first c.args.here c.args.k c.args.node.now c.in-Next.a c.in-Next.b (with_value c.in-Next.a c.step-in-Next.new.node) (with_value c.in-Next.b c.step-b.new.node) c.in-Next.behind c.step-b.result c.in-Next.is
+    (simp (c.step-in-Next.ensures.notes, c.goes-before.ensures, c.deref_mut-in-Next-2.ensures.value))
+    (simp (c.step-b.ensures.notes, c.deref_mut-in-Next.ensures.value))
+    (simp (c.step-b.ensures.seen, c.still-in-Next.ensures, c.deref_mut-in-Next.ensures.value))
 
 pub returns-in-Either-clause-seen : goal.returns-in-Either-clause-seen
 returns-in-Either-clause-seen t c =

@@ -3,7 +3,7 @@ use Rattle.std.proofs.Common.{◌≡◌, ℕ, zero, suc, ◌+◌, ◌-◌, ◌�
 use Rattle.form_pattern.specs.declared.tokens.High.{High}
 use Rattle.form_pattern.specs.declared.tokens.High.TheVariants.{Times, Endless, Sign}
 use Rattle.form_pattern.specs.Matching.{Turns, IsUpTo, Rounds, last, more, Holds, Matches}
-use Rattle.form_pattern.specs.Pieces.{Tree, copies, maybe, at_least, repeated}
+use Rattle.form_pattern.specs.Pieces.{Tree, many_tree, after_tree, copies, maybe, at_least, repeated}
 
 abbrev pub Pairs : Type 1
 Pairs = ℕ → ℕ → Type 0
@@ -40,13 +40,33 @@ turns_last : (R : Pairs) (n i j : ℕ) → Turns (suc n) R i j → (k : ℕ) × 
 turns_last R n i j t = let h = turns_split R n 1 i j (subst (λ m. Turns m R i j) (sym (add-one n)) t) in (h.0, h.1, subst (R h.0) (sym h.2.2) h.2.1)
 
 module _ (has : ℕ → ℕ → Bool) (s : List ℕ) where
+  after_to : (b a : Tree) (i j : ℕ) → Matches has s (after_tree b a) i j → (k : ℕ) × Matches has s b i k × Matches has s a k j
+  after_to Tree.nothing a i j m = (i, refl, m)
+  after_to Tree.start a i j m = m
+  after_to Tree.finish a i j m = m
+  after_to (Tree.one left) a i j m = m
+  after_to (Tree.next v x y) a i j m = m
+  after_to (Tree.either x y) a i j m = m
+  after_to (Tree.many v x) a i j m = m
+  after_to (Tree.ahead v x) a i j m = m
+
+  after_from : (b a : Tree) (i k j : ℕ) → Matches has s b i k → Matches has s a k j → Matches has s (after_tree b a) i j
+  after_from Tree.nothing a i k j e m = subst (λ p. Matches has s a p j) e m
+  after_from Tree.start a i k j l m = (k, l, m)
+  after_from Tree.finish a i k j l m = (k, l, m)
+  after_from (Tree.one left) a i k j l m = (k, l, m)
+  after_from (Tree.next v x y) a i k j l m = (k, l, m)
+  after_from (Tree.either x y) a i k j l m = (k, l, m)
+  after_from (Tree.many v x) a i k j l m = (k, l, m)
+  after_from (Tree.ahead v x) a i k j l m = (k, l, m)
+
   copies_to : (a b : Tree) (n i j : ℕ) → Matches has s (copies n a b) i j → (k : ℕ) × Matches has s b i k × Turns n (Matches has s a) k j
   copies_to a b zero i j m = (j, m, refl)
-  copies_to a b (suc n) i j m = let h = copies_to a b n i m.0 m.1 in (h.0, h.1, turns_snoc (Matches has s a) n h.0 m.0 j h.2 m.2)
+  copies_to a b (suc n) i j m = let l = after_to (copies n a b) a i j m in let h = copies_to a b n i l.0 l.1 in (h.0, h.1, turns_snoc (Matches has s a) n h.0 l.0 j h.2 l.2)
 
   copies_from : (a b : Tree) (n i k j : ℕ) → Matches has s b i k → Turns n (Matches has s a) k j → Matches has s (copies n a b) i j
   copies_from a b zero i k j m e = subst (λ p. Matches has s b i p) (sym e) m
-  copies_from a b (suc n) i k j m t = let h = turns_last (Matches has s a) n k j t in (h.0, copies_from a b n i k h.0 m h.1, h.2)
+  copies_from a b (suc n) i k j m t = let h = turns_last (Matches has s a) n k j t in after_from (copies n a b) a i h.0 j (copies_from a b n i k h.0 m h.1) h.2
 
 module _ (has : ℕ → ℕ → Bool) (s : List ℕ) (a : Tree) where
   alone_to : (n i j : ℕ) → Matches has s (copies n a Tree.nothing) i j → Turns n (Matches has s a) i j
@@ -70,9 +90,10 @@ module _ (has : ℕ → ℕ → Bool) (s : List ℕ) (a : Tree) where
   at_least_to zero i j (inl r) = let t = rounds_turns (Matches has s a) j i r in (suc t.0, omega arith, t.1)
   at_least_to zero i j (inr e) = (zero, omega arith, e)
   at_least_to (suc low) i j m =
-      let h = alone_to low i m.0 m.1 in
-      let t = rounds_turns (Matches has s a) j m.0 m.2 in
-      (low + suc t.0, omega arith, turns_join (Matches has s a) low (suc t.0) i m.0 j h t.1)
+      let l = after_to has s (copies low a Tree.nothing) (many_tree a) i j m in
+      let h = alone_to low i l.0 l.1 in
+      let t = rounds_turns (Matches has s a) j l.0 l.2 in
+      (low + suc t.0, omega arith, turns_join (Matches has s a) low (suc t.0) i l.0 j h t.1)
 
   at_least_from : (low n i j : ℕ) → low ≤ n → Turns n (Matches has s a) i j → Matches has s (at_least low a) i j
   at_least_from zero zero i j le t = inr t
@@ -80,7 +101,7 @@ module _ (has : ℕ → ℕ → Bool) (s : List ℕ) (a : Tree) where
   at_least_from (suc low) n i j le t =
       let size : n ≡ low + suc (n - suc low) = omega arith in
       let h = turns_split (Matches has s a) low (suc (n - suc low)) i j (subst (λ m. Turns m (Matches has s a) i j) size t) in
-      (h.0, alone_from low i h.0 h.1, turns_rounds (Matches has s a) (n - suc low) h.0 j h.2)
+      after_from has s (copies low a Tree.nothing) (many_tree a) i h.0 j (alone_from low i h.0 h.1) (turns_rounds (Matches has s a) (n - suc low) h.0 j h.2)
 
   pub repeated_to : (low : ℕ) (high : High) (i j : ℕ) → IsUpTo low high → Matches has s (repeated low high a) i j → (n : ℕ) × (low ≤ n) × IsUpTo n high × Turns n (Matches has s a) i j
   unfolding repeated

@@ -1,5 +1,5 @@
 -- What is made of the parts of a pattern: a tree without quantifiers, where it weighs at most 2,000.
-use Rattle.std.specs.Prelude.{ℕ, zero, suc, ◌+◌, ◌-◌, ◌==◌, nat_le, Bool, false, List, map, reverse, Option, Some, None, if◌then◌else◌}
+use Rattle.std.specs.Prelude.{ℕ, zero, suc, ◌+◌, ◌-◌, ◌==◌, nat_le, Bool, true, false, List, map, reverse, Option, Some, None, if◌then◌else◌}
 use Rattle.std.specs.Option.{option_map}
 use Rattle.form_pattern.specs.declared.tokens.High.{High}
 use Rattle.form_pattern.specs.declared.tokens.High.TheVariants.{Times, Endless, Sign}
@@ -52,10 +52,18 @@ either_tree = Tree.either
 abbrev pub many_tree : Tree → Tree
 many_tree = Tree.many false
 
+abbrev pub is_nothing : Tree → Bool
+is_nothing Tree.nothing = true
+is_nothing _ = false
+
+-- a behind b; behind nothing it stands alone
+abbrev pub after_tree : Tree → Tree → Tree
+after_tree b a = if is_nothing b then a else next_tree b a
+
 -- b, and then n copies of a; the last one stands on top, so that a sequence is gone over from its end
 abbrev pub copies : ℕ → Tree → Tree → Tree
 copies zero a b = b
-copies (suc n) a b = next_tree (copies n a b) a
+copies (suc n) a b = after_tree (copies n a b) a
 
 -- `a?`
 abbrev pub maybe : Tree → Tree
@@ -64,7 +72,7 @@ maybe a = Tree.either a Tree.nothing
 -- `a*` is `(a+)?`, and `a{3,}` is `aaa+`
 abbrev pub at_least : ℕ → Tree → Tree
 at_least zero a = maybe (many_tree a)
-at_least (suc n) a = next_tree (copies n a Tree.nothing) (many_tree a)
+at_least (suc n) a = after_tree (copies n a Tree.nothing) (many_tree a)
 
 -- `a{2,4}` is `aaa?a?`
 unfoldable pub repeated : ℕ → High → Tree → Tree

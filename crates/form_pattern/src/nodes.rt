@@ -1,6 +1,6 @@
 //! Patterns without quantifiers, as trees.
 ghost use Rattle.std.specs.Prelude.{◌≡◌, ◌-◌, IfOk};
-ghost use Rattle.form_pattern.specs.Pieces.{tree_of, next_tree, either_tree, many_tree, copies, at_least, repeated};
+ghost use Rattle.form_pattern.specs.Pieces.{tree_of, next_tree, either_tree, many_tree, is_nothing, after_tree, copies, at_least, repeated};
 
 use crate::tokens::High;
 use std::alloc::{AllocError, Global};
@@ -84,6 +84,31 @@ fn copy(alloc: Global, node: &Node) -> Result<Node, AllocError>
     }
 }
 
+fn is_nothing(node: &Node) -> bool
+    ensures { result ≡ is_nothing (tree_of node.now) }
+{
+    match node {
+        Node::Nothing => true,
+        Node::Start => false,
+        Node::Finish => false,
+        Node::One(_) => false,
+        Node::Next(_, _, _) => false,
+        Node::Either(_, _) => false,
+        Node::Many(_, _) => false,
+        Node::Ahead(_, _) => false,
+    }
+}
+
+// One behind the other; behind nothing it stands alone.
+fn after(alloc: Global, front: Node, node: Node) -> Result<Node, AllocError>
+    ensures { IfOk result (λ n. tree_of n ≡ after_tree (tree_of front) (tree_of node)) }
+{
+    if is_nothing(&front) {
+        return Ok(node);
+    }
+    next(alloc, front, node)
+}
+
 // A tree, and then a number of copies of another.
 fn copies(alloc: Global, count: u32, node: &Node, front: Node) -> Result<Node, AllocError>
     ensures { IfOk result (λ n. tree_of n ≡ copies count (tree_of node.now) (tree_of front)) }
@@ -91,7 +116,7 @@ fn copies(alloc: Global, count: u32, node: &Node, front: Node) -> Result<Node, A
     let mut all = front;
     for _ in 0..count {
         let one = copy(alloc, node)?;
-        all = next(alloc, all, one)?;
+        all = after(alloc, all, one)?;
     }
     Ok(all)
 }
@@ -106,7 +131,7 @@ fn at_least(alloc: Global, low: u32, node: Node) -> Result<Node, AllocError>
     }
     let front = copies(alloc, low - 1, &node, Node::Nothing)?;
     let last = many(alloc, node)?;
-    next(alloc, front, last)
+    after(alloc, front, last)
 }
 
 /// A tree with a quantifier.

@@ -1,0 +1,4 @@
+pub mod OptionLaws
+mod SettlingLaws
+mod StepLaws
+mod WalkLaws

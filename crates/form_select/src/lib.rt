@@ -1,0 +1,16 @@
+//! The options of a select element, and what the selectedness setting algorithm leaves selected.
+//!
+//! Each call on a tree reads the nodes that stand directly behind the select: its descendants.
+#![tactic(auto)]
+
+mod elements;
+mod options;
+mod selects;
+mod settling;
+#[cfg(test)]
+mod tests;
+mod walk;
+
+pub use options::{option_disabled, option_value, select_of};
+pub use selects::{display_size, missing, placeholder};
+pub use settling::{settle, settled};

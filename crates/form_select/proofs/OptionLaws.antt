@@ -1,5 +1,5 @@
 -- What an option is, by its parts.
-use Rattle.std.proofs.Common.{◌≡◌, ℕ, codes, ◌&&◌, ◌||◌, Bool, true, false, not, cond, List, [], ◌∷◌, ◌++◌, Option, Some, None, refl, sym, ap, ◌∙◌}
+use Rattle.std.proofs.Common.{◌≡◌, ℕ, codes, ◌&&◌, ◌||◌, Bool, true, false, not, cond, List, [], ◌∷◌, Option, Some, None, refl, ◌∙◌}
 use Rattle.std.specs.Char.{is_ascii_whitespace}
 use Rattle.std.specs.List.{list_all, filter, slice_split, onto_first, join_with_byte}
 use Rattle.std.specs.Option.{option_and_then, option_map, option_map_or}

@@ -1,16 +1,16 @@
 -- The options of a select stand behind it without a gap.
-use Rattle.std.proofs.Common.{add-one, ◌≡◌, ℕ, zero, suc, ◌+◌, ◌<◌, ◌≤◌, ◌&&◌, Bool, true, false, cond, List, [], ◌∷◌, ◌++◌, length, map, drop, Option, Some, None, ◌⊎◌, inl, inr, refl, sym, ap, ◌∙◌, subst, arith, leb}
+use Rattle.std.proofs.Common.{add-one, ◌≡◌, ℕ, zero, suc, ◌+◌, ◌<◌, ◌≤◌, Bool, true, false, cond, [], ◌∷◌, ◌++◌, length, drop, Option, Some, None, ◌⊎◌, inl, inr, refl, sym, ap, ◌∙◌, subst, arith, leb}
 use Rattle.std.specs.List.{filter, slice_get}
 use Rattle.std.specs.Option.{option_and_then, option_map, option_map_or}
 use Rattle.std.proofs.lemmas.Bool.{cases_lt}
 use Rattle.std.proofs.lemmas.Bool.Decides.{nat_tests}
 use Rattle.std.proofs.lemmas.List.{drop_all}
 use Rattle.std.proofs.lemmas.List.Quantifiers.{position-Some}
-use Rattle.std.proofs.lemmas.Option.{none-some, same_Some, slice_get-map, slice_get_within}
+use Rattle.std.proofs.lemmas.Option.{none-some, same_Some, slice_get-map}
 use Rattle.form_tree.specs.declared.node.Key.{Key}
 use Rattle.form_tree.specs.declared.node.Node.{Node}
 use Rattle.form_tree.specs.Elements.{is_optgroup, is_option, is_select, passes, same_key}
-use Rattle.form_tree.specs.Selects.{is_option_of, options, select_above, select_of}
+use Rattle.form_tree.specs.Selects.{is_option_of, options, select_above}
 use Rattle.form_tree.specs.Tree.{Nodes, IsTree, at_key, is_key, key_at, parent_of, parent_places, place_in, place_of, shape_of}
 use Rattle.form_tree.proofs.Laws.{at_key_place, at_place, key_found, key_same, parent_before, place_in_shape}
 use Rattle.form_select.specs.Options.{as_list, options_at, options_from, parent_place}

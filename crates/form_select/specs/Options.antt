@@ -1,5 +1,5 @@
 -- The options of a select, place by place in tree order.
-use Rattle.std.specs.Prelude.{ℕ, Bool, List, [], ◌∷◌, drop, filter, Option, Some, None, if◌then◌else◌}
+use Rattle.std.specs.Prelude.{ℕ, Bool, [], ◌∷◌, drop, filter, Option, Some, None, if◌then◌else◌}
 use Rattle.std.specs.List.{slice_get}
 use Rattle.std.specs.Option.{option_and_then, option_map_or}
 use Rattle.form_tree.specs.declared.node.Key.{Key}

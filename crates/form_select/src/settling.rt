@@ -1,10 +1,10 @@
 // The selectedness setting algorithm.
 ghost use Rattle.std.specs.Prelude.{◌≡◌, ◌∷◌, ◌++◌, [], Some, true, not, filter, find, map, reverse, IfOk, OnOk};
-ghost use Rattle.std.specs.Option.{option_and_then, option_map, option_map_or};
+ghost use Rattle.std.specs.Option.{option_map, option_map_or};
 ghost use Rattle.form_tree.specs.Elements.{is_option, is_select, passes};
-ghost use Rattle.form_tree.specs.Selects.{marked_option, options, settled, settled_by, settled_options};
+ghost use Rattle.form_tree.specs.Selects.{marked_option, options, settled, settled_options};
 ghost use Rattle.form_tree.specs.Tree.{at_key};
-ghost use Rattle.form_select.specs.Options.{as_list, options_at};
+ghost use Rattle.form_select.specs.Options.{options_at};
 
 use crate::options::option_disabled;
 use crate::selects::{display_size, is_multiple, is_selected};

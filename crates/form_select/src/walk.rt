@@ -1,5 +1,5 @@
 // The options of a select, place by place.
-ghost use Rattle.std.specs.Prelude.{◌≡◌, IfSome, ◌≤◌, ◌<◌, ◌+◌, ℕ, true, false, nat_le, Some, None, [], length};
+ghost use Rattle.std.specs.Prelude.{◌≡◌, IfSome, ◌≤◌, ◌<◌, ◌+◌, true, false, nat_le, Some, None, []};
 ghost use Rattle.std.specs.Option.{option_and_then, option_map_or};
 ghost use Rattle.form_tree.specs.Elements.{is_option, is_select, passes};
 ghost use Rattle.form_tree.specs.Selects.{options};

@@ -1,17 +1,14 @@
 -- What a run knows of its input and its end.
-use Rattle.std.proofs.Common.{◌≡◌, ℕ, ◌≤◌, length, arith, cond, Bool, List, ◌++◌, refl, sym, ap, subst, ◌∙◌, inl, true, false, Some, None, IfSome, append-nil}
+use Rattle.std.proofs.Common.{◌≡◌, ℕ, ◌≤◌, length, arith, List, ◌++◌, refl, sym, ap, subst, ◌∙◌, inl, true, false, Some, None, IfSome, append-nil}
 use Rattle.std.specs.Prelude.{Option, ◌⊎◌, IsSome, is_some}
-use Rattle.std.specs.Str.{is_utf8}
 use Rattle.std.specs.Io.KnownBytes.{IsAtEnd}
 use Rattle.url.specs.Parts.{Parts}
 use Rattle.form_run.specs.Limits.{most_input, too_many}
 use Rattle.form_run.specs.Moved.{Gave}
 use Rattle.form_run.specs.declared.top.Status.{Status}
 use Rattle.form_run.specs.declared.top.Status.TheVariants.{Done, Page, Usage, ReadFault, WriteFault, Memory, TooLong}
-use Rattle.form_run.specs.Transcript.{expected_end, end_of, PageIs, IsEnd, IsReadingEnd, IsWhole}
-use Rattle.form_run.specs.Input.{page_text}
-use Rattle.form_run.specs.Page.{PageData, first_page}
-use Rattle.form_run.proofs.PageLaws.{page-again, page-found}
+use Rattle.form_run.specs.Transcript.{expected_end, PageIs, IsEnd, IsReadingEnd, IsWhole}
+use Rattle.form_run.proofs.PageLaws.{page_told}
 
 -- what holds of the bytes that were read holds of the bytes that the source held
 pub of_input : (held left : Option (List ℕ)) (before now : ℕ) (input : List ℕ) (P : List ℕ → Type 0) → Gave held left before now input → IsAtEnd left → P input → IfSome held P
@@ -38,19 +35,7 @@ stopped (Some input) left written now base status Read Write kind usage fault lo
     go Page kind usage fault long short calm = cc
     go WriteFault kind usage fault long short calm = cc
 
--- the end of a transcript tells of the page
-page_told : (input : List ℕ) (status : Status) → status ≡ expected_end input → PageIs status input
-page_told input status h = go (is_utf8 input) refl h
-  where
-    read : (o : Option PageData) → first_page (page_text input) ≡ o → is_utf8 input ≡ true → status ≡ end_of o → PageIs status input
-    read (Some page) e text f = let P : Status → Type 0 = λ s. PageIs s input in subst P (sym f) (text, page, page-found (page_text input) page e)
-    read None e text f = let P : Status → Type 0 = λ s. PageIs s input in subst P (sym f) (λ _ page spelled. let found = page-again (page_text input) page spelled in let none : Some page ≡ None = sym found ∙ e in cc)
-
-    go : (b : Bool) → is_utf8 input ≡ b → status ≡ end_of (cond b (first_page (page_text input)) None) → PageIs status input
-    go true e f = read (first_page (page_text input)) refl e f
-    go false e f = let P : Status → Type 0 = λ s. PageIs s input in subst P (sym f) (λ text page spelled. let no : false ≡ true = sym e ∙ text in cc)
-
--- so does an end that writing the transcript may have
+-- an end that writing the transcript may have tells of the page
 pub page_of_end : (input : List ℕ) (status : Status) (Text : Type 0) → (IsEnd status ≡ true → (status ≡ expected_end input) × Text) → PageIs status input
 page_of_end input Done Text whole = page_told input Done (whole refl).0
 page_of_end input Page Text whole = page_told input Page (whole refl).0

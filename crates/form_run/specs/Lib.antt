@@ -3,7 +3,7 @@ pub mod Lines
 pub mod Input
 pub mod Reading
 pub mod Page
-pub mod Opened
+pub mod Taken
 pub mod Command
 pub mod Moved
 pub mod Session

@@ -1,83 +1,59 @@
--- The pages that are read so far: one form with one text input.
-use Rattle.std.specs.Prelude.{◌≡◌, ℕ, List, [], ◌∷◌, ◌++◌, length, codes, Bool, true, false, ◌==◌, ◌||◌, ◌&&◌, not, nat_lt, nat_le, bytes_eq, if◌then◌else◌, Option, Some, None, ◌⊎◌, ◌<◌}
-use Rattle.std.specs.Option.{option_and_then}
+-- The pages that are taken so far: one form with one text input.
+use Rattle.std.specs.Prelude.{ℕ, List, [], ◌∷◌, length, codes, Bool, true, false, ◌==◌, ◌||◌, ◌&&◌, not, nat_lt, nat_le, Option, Some, None}
 use Rattle.std.specs.Char.{is_ascii_alphanumeric}
 use Rattle.std.specs.List.{list_all}
-use Rattle.form_text.specs.Front.{behind}
-use Rattle.form_run.specs.Reading.{quoted}
-
--- what the page says: the form's action, the input's name, and whether the input is required
-pub record PageData : Type 0 where
-  pub action : List ℕ
-  pub name : List ℕ
-  pub required : Bool
+use Rattle.form_tree.specs.declared.node.Raw.{Raw}
+use Rattle.form_tree.specs.declared.node.Tag.{Tag}
+use Rattle.form_tree.specs.declared.node.Tag.TheVariants as tags
+use Rattle.form_tree.specs.Elements.{is_form_tag}
+use Rattle.form_tree.specs.Tree.{is_named}
 
 -- U+0020 to U+007E, but for `"`, `&`, `<` and `>`
 abbrev pub is_action_character : ℕ → Bool
 is_action_character b = nat_le 32 b && nat_le b 126 && not ((b == 34) || (b == 38) || (b == 60) || (b == 62))
 
--- ---- what a page spells
+-- an `action` of such characters
+abbrev pub is_action : List ℕ × List ℕ → Bool
+is_action attr = is_named (codes "action") attr && list_all is_action_character attr.1
 
-abbrev pub form_start : List ℕ
-form_start = codes "<form action=\""
+-- a `name` of letters and digits, and of one at least
+abbrev pub is_name : List ℕ × List ℕ → Bool
+is_name attr = is_named (codes "name") attr && (list_all is_ascii_alphanumeric attr.1 && nat_lt 0 (length attr.1))
 
-abbrev pub input_start : List ℕ
-input_start = codes "><input name=\""
+abbrev pub is_required : List ℕ × List ℕ → Bool
+is_required attr = is_named (codes "required") attr
 
-abbrev pub required_word : List ℕ
-required_word = codes " required"
+-- the form has the attribute `action` alone
+abbrev pub are_form_attrs : List (List ℕ × List ℕ) → Bool
+are_form_attrs [] = false
+are_form_attrs (a ∷ []) = is_action a
+are_form_attrs (a ∷ b ∷ rest) = false
 
-abbrev pub page_end : List ℕ
-page_end = codes "></form>"
+-- the input has `name` alone, or `name` and `required` in either order
+abbrev pub are_input_attrs : List (List ℕ × List ℕ) → Bool
+are_input_attrs [] = false
+are_input_attrs (a ∷ []) = is_name a
+are_input_attrs (a ∷ b ∷ []) = (is_name a && is_required b) || (is_required a && is_name b)
+are_input_attrs (a ∷ b ∷ c ∷ rest) = false
 
--- the word where the input is required
-abbrev pub required_text : Bool → List ℕ
-required_text true = required_word
-required_text false = []
+abbrev pub is_first_form : Raw → Bool
+is_first_form raw = is_form_tag raw.tag && are_form_attrs raw.attrs
 
--- the page's text, up to its end
-abbrev pub spelling : PageData → List ℕ → List ℕ
-spelling page ending =
-    form_start ++ (page.action ++ 34 ∷ (input_start ++ (page.name ++ 34 ∷ (required_text page.required ++ (page_end ++ ending)))))
+abbrev pub is_input_tag : Tag → Bool
+is_input_tag tags.Input = true
+is_input_tag tag = false
 
--- the text spells the page; behind it stands nothing, or one line feed
-pub record Spells (text : List ℕ) (page : PageData) : Type 0 where
-  pub ending : List ℕ
-  pub ends : (ending ≡ []) ⊎ (ending ≡ 10 ∷ [])
-  pub spelled : text ≡ spelling page ending
-  pub action : list_all is_action_character page.action ≡ true
-  pub name : list_all is_ascii_alphanumeric page.name ≡ true
-  pub some_name : 0 < length page.name
+-- the place of the form
+abbrev pub is_form_place : Option ℕ → Bool
+is_form_place None = false
+is_form_place (Some place) = place == 0
 
--- ---- how it is read from the left
+abbrev pub is_first_input : Raw → Bool
+is_first_input raw = is_input_tag raw.tag && (is_form_place raw.parent && are_input_attrs raw.attrs)
 
--- whether the text begins with the word, and what stands behind it
-abbrev pub behind_if_there : List ℕ → Option (List ℕ) → Bool × List ℕ
-behind_if_there text (Some rest) = (true, rest)
-behind_if_there text None = (false, text)
-
-abbrev pub is_page_end : List ℕ → Bool
-is_page_end text = bytes_eq text page_end || bytes_eq text (page_end ++ 10 ∷ [])
-
--- the page of these parts, where they are as a page has them
-abbrev pub page_of_parts : List ℕ → List ℕ → Bool × List ℕ → Option PageData
-page_of_parts action name end =
-    if list_all is_action_character action && list_all is_ascii_alphanumeric name && nat_lt 0 (length name) && is_page_end end.1
-    then Some (record { action = action; name = name; required = end.0 }) else None
-
--- what follows each part that was read
-abbrev pub after_name : List ℕ → List ℕ × List ℕ → Option PageData
-after_name action name = page_of_parts action name.0 (behind_if_there name.1 (behind required_word name.1))
-
-abbrev pub after_input_start : List ℕ → List ℕ → Option PageData
-after_input_start action rest = option_and_then (after_name action) (quoted rest)
-
-abbrev pub after_action : List ℕ × List ℕ → Option PageData
-after_action action = option_and_then (after_input_start action.0) (behind input_start action.1)
-
-abbrev pub after_form_start : List ℕ → Option PageData
-after_form_start rest = option_and_then after_action (quoted rest)
-
--- the page that a text spells
-unfoldable pub first_page : List ℕ → Option PageData
-first_page text = option_and_then after_form_start (behind form_start text)
+-- the elements are a form and in it an input, with these attributes; their texts say nothing
+abbrev pub is_first_page : List Raw → Bool
+is_first_page [] = false
+is_first_page (form ∷ []) = false
+is_first_page (form ∷ input ∷ []) = is_first_form form && is_first_input input
+is_first_page (form ∷ input ∷ more ∷ rest) = false

@@ -8,8 +8,7 @@ use Rattle.form_submit.specs.declared.First.{First}
 use Rattle.form_submit.specs.declared.First.TheVariants.{Action, Scheme, Get}
 use Rattle.form_submit.specs.First.{first_request}
 use Rattle.form_run.specs.Lines.{line_then}
-use Rattle.form_run.specs.Page.{PageData}
-use Rattle.form_run.specs.Opened.{raws_of}
+use Rattle.form_tree.specs.declared.node.Raw.{Raw}
 use Rattle.form_run.specs.Command.{command_in}
 use Rattle.form_run.specs.declared.command.Command.{Command}
 use Rattle.form_run.specs.declared.command.Command.TheVariants.{Enter, Set}
@@ -27,8 +26,8 @@ abbrev pub input_key : Key
 input_key = record { 0 = 2 }
 
 -- the session that a page begins: its elements, with empty states
-abbrev pub opened : Parts → PageData → Session
-opened base page = record { base = base; tree = tree_of_raws (raws_of page) }
+abbrev pub opened : Parts → List Raw → Session
+opened base raws = record { base = base; tree = tree_of_raws raws }
 
 -- ---- the input's value and flag
 

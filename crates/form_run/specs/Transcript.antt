@@ -1,13 +1,17 @@
 -- What a run writes, and how it ends.
-use Rattle.std.specs.Prelude.{◌≡◌, ℕ, List, [], ◌∷◌, codes, Bool, true, false, Option, Some, None, if◌then◌else◌}
+use Rattle.std.specs.Prelude.{◌≡◌, ℕ, List, [], ◌∷◌, codes, Bool, true, false, Option, Some, None, Result, Ok, Err, ◌⊎◌}
 use Rattle.std.specs.Str.{is_utf8}
 use Rattle.std.specs.Result.{result_ok}
 use Rattle.std.specs.Io.KnownBytes.{append_known, IsAtEnd}
 use Rattle.url.specs.Parser.{parse_url}
 use Rattle.url.specs.Parts.{Parts}
+use Rattle.form_tree.specs.declared.node.Raw.{Raw}
+use Rattle.form_markup.specs.Spelling.{IsFault, Spells}
+use Rattle.form_markup.specs.declared.fault.Fault.{Fault}
 use Rattle.form_run.specs.Lines.{line_then}
-use Rattle.form_run.specs.Input.{page_text, command_lines}
-use Rattle.form_run.specs.Page.{PageData, Spells, first_page}
+use Rattle.form_run.specs.Input.{command_lines}
+use Rattle.form_run.specs.Page.{is_first_page}
+use Rattle.form_run.specs.Taken.{page_in, page_of}
 use Rattle.form_run.specs.Session.{opened, replies}
 use Rattle.form_run.specs.declared.top.Status.{Status}
 use Rattle.form_run.specs.declared.top.Status.TheVariants.{Done, Page, Usage, ReadFault, WriteFault, Memory, TooLong}
@@ -17,18 +21,10 @@ abbrev pub base_of : List (List ℕ) → Option Parts
 base_of (base ∷ []) = result_ok (parse_url None base)
 base_of words = None
 
--- the page of an input that is UTF-8
-abbrev pub page_in : List ℕ → Option PageData
-page_in input = if is_utf8 input then first_page (page_text input) else None
-
--- the line for a page that is not read
-abbrev pub bad_page_line : List ℕ
-bad_page_line = line_then (codes "bad page unbuilt 0") []
-
 -- a page's number of elements, and the replies to all commands in turn
-abbrev pub transcript : Parts → List (List ℕ) → Option PageData → List ℕ
-transcript base lines None = bad_page_line
-transcript base lines (Some page) = line_then (codes "page 2") (replies (opened base page) lines)
+abbrev pub transcript : Parts → List (List ℕ) → Result (List Raw) (List ℕ) → List ℕ
+transcript base lines (Err line) = line
+transcript base lines (Ok raws) = line_then (codes "page 2") (replies (opened base raws) lines)
 
 -- the text of the transcript; without a base there is none
 abbrev pub expected_text : Option Parts → List ℕ → List ℕ
@@ -36,17 +32,26 @@ expected_text None input = []
 expected_text (Some base) input = transcript base (command_lines input) (page_in input)
 
 -- the end of the transcript
-abbrev pub end_of : Option PageData → Status
-end_of None = Page
-end_of (Some page) = Done
+abbrev pub end_of : Result (List Raw) (List ℕ) → Status
+end_of (Err line) = Page
+end_of (Ok raws) = Done
 
 abbrev pub expected_end : List ℕ → Status
 expected_end input = end_of (page_in input)
 
--- With the end Done the input is a text whose page is spelled; with the end Page it is no text, or spells no page.
+-- the text spells elements of which this test gives this answer
+abbrev pub SpellsPage : Bool → List ℕ → Type 0
+SpellsPage is_first text = (raws : List Raw) × Spells [] text raws × (is_first_page raws ≡ is_first)
+
+-- the text has a fault
+abbrev pub HasFault : List ℕ → Type 0
+HasFault text = (kind : Fault) × (place : ℕ) × IsFault [] text kind place
+
+-- With the end Done the input is UTF-8 and its page spells elements that are taken; with the end Page it is not UTF-8,
+-- or its page has a fault, or spells other elements.
 abbrev pub PageIs : Status → List ℕ → Type 0
-PageIs Done input = (is_utf8 input ≡ true) × (page : PageData) × Spells (page_text input) page
-PageIs Page input = is_utf8 input ≡ true → (page : PageData) → Spells (page_text input) page → ⊥
+PageIs Done input = (is_utf8 input ≡ true) × SpellsPage true (page_of input)
+PageIs Page input = (is_utf8 input ≡ false) ⊎ (HasFault (page_of input) ⊎ SpellsPage false (page_of input))
 PageIs status input = Unit {0}
 
 -- ---- kinds of ends

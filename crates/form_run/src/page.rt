@@ -1,30 +1,11 @@
-// The page of one form with one text input.
-ghost use Rattle.std.specs.Prelude.{◌≡◌, Some, IfSome, option_map};
-ghost use Rattle.std.specs.List.{list_all};
+// The pages that are taken so far.
+ghost use Rattle.std.specs.Prelude.{◌≡◌};
 ghost use Rattle.std.specs.Char.{is_ascii_alphanumeric};
-ghost use Rattle.form_run.specs.Page.{behind_if_there, is_action_character, required_word, is_page_end, first_page};
-ghost use Rattle.form_text.specs.Front.{behind};
+ghost use Rattle.std.specs.List.{list_all};
+ghost use Rattle.form_run.specs.Page.{are_form_attrs, are_input_attrs, is_action, is_action_character, is_first_form, is_first_input, is_first_page, is_name, is_required};
 
-use crate::reading::split_quoted;
-use form_text::behind;
-
-/// What the page says: the form's action, the input's name, and whether the input is required.
-#[derive(Clone, Copy, Debug)]
-pub struct FirstPage<'a> {
-    pub action: &'a str,
-    pub name: &'a str,
-    pub required: bool,
-}
-
-// Whether the input is required, and what stands behind that word.
-fn strip_required(text: &str) -> (bool, &str)
-    ensures { (result.0, result.1.now) ≡ behind_if_there text.now (behind required_word text.now) }
-{
-    match behind(text, " required") {
-        Some(rest) => (true, rest),
-        None => (false, text),
-    }
-}
+use form_text::Text;
+use form_tree::{Raw, Tag};
 
 // Whether an action may have the character.
 fn is_action_character(b: u8) -> bool
@@ -33,62 +14,79 @@ fn is_action_character(b: u8) -> bool
     (b' '..=b'~').contains(&b) && !matches!(b, b'"' | b'&' | b'<' | b'>')
 }
 
-fn is_action(text: &str) -> bool
+fn are_action_characters(text: &str) -> bool
     ensures { result ≡ list_all is_action_character text.now }
 {
     text.bytes().all(is_action_character)
 }
 
-fn is_name(text: &str) -> bool
+fn are_name_characters(text: &str) -> bool
     ensures { result ≡ list_all is_ascii_alphanumeric text.now }
 {
     text.bytes().all(|b| b.is_ascii_alphanumeric())
 }
 
-fn is_page_end(text: &str) -> bool
-    ensures { result ≡ is_page_end text.now }
+// Whether it is the attribute `action` with such characters.
+fn is_action(attr: &(Text, Text)) -> bool
+    ensures { result ≡ is_action attr.now }
 {
-    text == "></form>" || text == "></form>\n"
+    attr.0.as_str() == "action" && are_action_characters(attr.1.as_str())
 }
 
-impl FirstPage<'_> {
-    ghost use Rattle.form_run.specs.Page.{PageData, Spells};
-    ghost use Rattle.form_run.specs.Opened.{plain};
+// Whether it is the attribute `name` with letters and digits, one at least.
+fn is_name(attr: &(Text, Text)) -> bool
+    ensures { result ≡ is_name attr.now }
+{
+    attr.0.as_str() == "name"
+        && are_name_characters(attr.1.as_str())
+        && !attr.1.as_str().is_empty()
+}
 
-    /// The page that the text spells; `None` where it spells none.
-    pub fn read(text: &str) -> Option<FirstPage<'_>>
-        ensures found { IfSome result (λ page. Spells text.now (plain page)) }
-        ensures only { (page : PageData) → Spells text.now page → option_map plain result ≡ Some page }
-        ensures value { option_map plain result ≡ first_page text.now }
-    {
-        FirstPage::from_left(text)
+fn is_required(attr: &(Text, Text)) -> bool
+    ensures { result ≡ is_required attr.now }
+{
+    attr.0.as_str() == "required"
+}
+
+// Whether a form has these attributes.
+fn are_form_attrs(attrs: &[(Text, Text)]) -> bool
+    ensures { result ≡ are_form_attrs attrs.now }
+{
+    match attrs {
+        [action] => is_action(action),
+        _ => false,
     }
+}
 
-    // The page, read from the left.
-    #[tactic(auto, unfolding(crate::specs::Page::first_page))]
-    fn from_left(text: &str) -> Option<FirstPage<'_>>
-        ensures { option_map plain result ≡ first_page text.now }
-    {
-        let Some(rest) = behind(text, "<form action=\"") else {
-            return None;
-        };
-        let Some((action, rest)) = split_quoted(rest) else {
-            return None;
-        };
-        let Some(rest) = behind(rest, "><input name=\"") else {
-            return None;
-        };
-        let Some((name, rest)) = split_quoted(rest) else {
-            return None;
-        };
-        let (required, rest) = strip_required(rest);
-        if !is_action(action) || !is_name(name) || name.is_empty() || !is_page_end(rest) {
-            return None;
-        }
-        Some(FirstPage {
-            action,
-            name,
-            required,
-        })
+// Whether its input has these.
+fn are_input_attrs(attrs: &[(Text, Text)]) -> bool
+    ensures { result ≡ are_input_attrs attrs.now }
+{
+    match attrs {
+        [name] => is_name(name),
+        [one, other] => (is_name(one) && is_required(other)) || (is_required(one) && is_name(other)),
+        _ => false,
+    }
+}
+
+fn is_first_form(raw: &Raw) -> bool
+    ensures { result ≡ is_first_form raw.now }
+{
+    raw.tag.is_form() && are_form_attrs(raw.attrs.as_slice())
+}
+
+fn is_first_input(raw: &Raw) -> bool
+    ensures { result ≡ is_first_input raw.now }
+{
+    matches!(raw.tag, Tag::Input) && matches!(raw.parent, Some(0)) && are_input_attrs(raw.attrs.as_slice())
+}
+
+/// Whether the elements are a form and in it an input, with attributes of these names and characters.
+pub fn is_first_page(raws: &[Raw]) -> bool
+    ensures { result ≡ is_first_page raws.now }
+{
+    match raws {
+        [form, input] => is_first_form(form) && is_first_input(input),
+        _ => false,
     }
 }

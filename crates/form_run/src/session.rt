@@ -1,16 +1,14 @@
 // A session, and its replies.
-ghost use Rattle.std.specs.Prelude.{◌≡◌, IfOk, OnErr, string_bytes};
-ghost use Rattle.form_tree.specs.Tree.{attr_of};
-ghost use Rattle.form_run.specs.Opened.{plain};
+ghost use Rattle.std.specs.Prelude.{◌≡◌, true, IfOk, OnErr, string_bytes};
+ghost use Rattle.form_tree.specs.Tree.{IsTreeOfRaws, attr_of};
+ghost use Rattle.form_run.specs.Page.{is_first_page};
 ghost use Rattle.form_run.specs.Session.{opened, or_empty, value_of, is_missing_at, set_reply, with_value, request_of, enter_reply, reply_to, reply};
 
 use crate::command::{Command, parse_line};
-use crate::elements::raws_of;
-use crate::page::FirstPage;
 use crate::print::{print_request, print_view};
 use form_submit::{First, get_request};
 use form_text::Text;
-use form_tree::{Key, State, Tree};
+use form_tree::{Key, Raw, State, Tree};
 use std::alloc::{AllocError, Global};
 use std::marker::Model;
 use url::Url;
@@ -41,11 +39,12 @@ impl Model for Session {
 }
 
 impl Session {
-    /// The session that a page begins, against the document's URL.
-    pub fn open(alloc: Global, base: Url, page: &FirstPage<'_>) -> Result<Session, AllocError>
-        ensures { IfOk result (λ session. session ≡ opened base (plain page.now)) }
+    /// The session that a page begins, against the document's URL. The elements are moved into the tree.
+    pub fn open(alloc: Global, base: Url, raws: Vec<Raw>) -> Result<Session, AllocError>
+        requires first { is_first_page raws.items ≡ true }
+        requires tree { IsTreeOfRaws raws.items }
+        ensures { IfOk result (λ session. session ≡ opened base raws.items) }
     {
-        let raws = raws_of(alloc, page)?;
         let tree = Tree::from_raw(alloc, raws)?;
         Ok(Session { base, tree })
     }

@@ -60,7 +60,7 @@ fn run_in(alloc: Global, words: &[&str], setting: Setting<'_>) -> Result<(Status
 const FREE: &str = "<form action=\"/s\"><input name=\"q\"></form>\n";
 
 // The document's URL, the input, the status and the text.
-const ROWS: [(&str, &str, Status, &str); 13] = [
+const ROWS: [(&str, &str, Status, &str); 9] = [
     (BASE, FIRST, Status::Done, FIRST_TEXT),
     (BASE, "<form></form>", Status::Page, BAD_PAGE),
     (BASE, "", Status::Page, BAD_PAGE),
@@ -95,31 +95,186 @@ const ROWS: [(&str, &str, Status, &str); 13] = [
         Status::Done,
         "page 2\n",
     ),
+];
+
+// A page, the status and the text: pages in free spelling, and pages that are spelled but not taken.
+const SPELLED: [(&str, Status, &str); 27] = [
     (
-        BASE,
+        "<form ACTION=/s><!-- c --><input name=q></form>",
+        Status::Done,
+        "page 2\n",
+    ),
+    (
+        "<!DOCTYPE html>\r\n<FORM action='/s'>a<Input NAME = 'q' Required />b &amp; c</fORM>\r\n",
+        Status::Done,
+        "page 2\n",
+    ),
+    (
+        "<form action><input required=\"\" name=q></form>",
+        Status::Done,
+        "page 2\n",
+    ),
+    (
+        "<form action=&#47;&#x73;><input name=q name=r></form>",
+        Status::Done,
+        "page 2\n",
+    ),
+    (
+        "<form action=\"/s\"><input name=\"q\"></form>\n\n",
+        Status::Done,
+        "page 2\n",
+    ),
+    (
+        "<form action=\"/s\"><input name=\"q\"></form>\n%script\r\nenter @2\n",
+        Status::Done,
+        "page 2\n",
+    ),
+    (
+        "<form action=\"/s\"><input name=\"q\"></form>\n%script \n%script\nenter @2\n",
+        Status::Done,
+        "page 2\nrequest GET https://example.com/s?q=\nok\n",
+    ),
+    ("<p>a &amp; b</p>", Status::Page, BAD_PAGE),
+    ("a", Status::Page, BAD_PAGE),
+    ("<form action=/s></form>", Status::Page, BAD_PAGE),
+    ("<input name=q>", Status::Page, BAD_PAGE),
+    ("<form><input name=q></form>", Status::Page, BAD_PAGE),
+    (
+        "<form action=/s><input></form>",
+        Status::Page,
+        BAD_PAGE,
+    ),
+    (
+        "<form action=/s id=a><input name=q></form>",
+        Status::Page,
+        BAD_PAGE,
+    ),
+    (
+        "<form action=/s><input name=q id=a></form>",
+        Status::Page,
+        BAD_PAGE,
+    ),
+    (
+        "<form action=/s><input required></form>",
+        Status::Page,
+        BAD_PAGE,
+    ),
+    (
+        "<form action=/s><input name=q required id=a></form>",
+        Status::Page,
+        BAD_PAGE,
+    ),
+    (
+        "<form action=/s></form><input name=q>",
+        Status::Page,
+        BAD_PAGE,
+    ),
+    (
+        "<input name=q><form action=/s></form>",
+        Status::Page,
+        BAD_PAGE,
+    ),
+    (
+        "<form action=/s><p><input name=q></p></form>",
+        Status::Page,
+        BAD_PAGE,
+    ),
+    (
+        "<form action=/s><textarea name=q></textarea></form>",
+        Status::Page,
+        BAD_PAGE,
+    ),
+    (
+        "<p action=/s><input name=q></p>",
+        Status::Page,
+        BAD_PAGE,
+    ),
+    (
         "<form action=\"/s\"><input name=\"\"></form>",
         Status::Page,
         BAD_PAGE,
     ),
     (
-        BASE,
+        "<form action=/s><input name=q-1></form>",
+        Status::Page,
+        BAD_PAGE,
+    ),
+    (
         "<form action=\"&\"><input name=\"q\"></form>",
         Status::Page,
         BAD_PAGE,
     ),
     (
-        BASE,
-        "<form action=\"/s\"><input name=\"q\"></form>\n\n",
+        "<form action=\"&amp;\"><input name=\"q\"></form>",
         Status::Page,
         BAD_PAGE,
     ),
     (
-        BASE,
-        "<form action=\"/s\"><input name=\"q\"></form>\n%script \n%script\nenter @2\n",
+        "<form action=\"é\"><input name=\"q\"></form>",
         Status::Page,
         BAD_PAGE,
     ),
 ];
+
+// A page with a fault, and the line. Places count after line ends are made LF.
+const FAULTS: [(&str, &str); 13] = [
+    ("<p>&copy;</p>", "bad page lexical 3\n"),
+    ("<select><p>", "bad page nesting 8\n"),
+    ("<form><input name=\"q", "bad page lexical 6\n"),
+    ("<form>", "bad page nesting 6\n"),
+    ("<input type=\"EMAIL\">", "bad page email 0\n"),
+    ("<a-b>", "bad page element 0\n"),
+    (
+        "<form action=\"&copy;\"><input name=\"q\"></form>",
+        "bad page lexical 0\n",
+    ),
+    ("<p>\r\n&copy;</p>", "bad page lexical 4\n"),
+    ("<p>\r&copy;</p>", "bad page lexical 4\n"),
+    ("<p>\r\r\n&copy;</p>", "bad page lexical 5\n"),
+    ("<p>\r", "bad page nesting 4\n"),
+    ("<form>\r\n%script\nenter @2\n", "bad page nesting 7\n"),
+    ("<p>\u{E9}\r\n<p></b>", "bad page nesting 9\n"),
+];
+
+#[test]
+fn spelled_pages(rt: HostRuntime) -> Result<(), Fail> {
+    for (page, status, text) in SPELLED {
+        let (got, written) = run_in(rt.alloc(), &[BASE], Setting::of(page.as_bytes()))?;
+        assert_eq!(rt; got, status);
+        assert_eq!(rt; written.as_slice(), text.as_bytes());
+    }
+    Ok(())
+}
+
+#[test]
+fn pages_with_faults(rt: HostRuntime) -> Result<(), Fail> {
+    for (page, line) in FAULTS {
+        let (got, written) = run_in(rt.alloc(), &[BASE], Setting::of(page.as_bytes()))?;
+        assert_eq!(rt; got, Status::Page);
+        assert_eq!(rt; written.as_slice(), line.as_bytes());
+    }
+    Ok(())
+}
+
+// Elements inside one another, and the line: the greatest depth, and one more.
+const DEPTHS: [(usize, &str); 2] = [
+    (256, "bad page nesting 768\n"),
+    (257, "bad page limit 768\n"),
+];
+
+#[test]
+fn deep_pages(rt: HostRuntime) -> Result<(), Fail> {
+    for (depth, line) in DEPTHS {
+        let mut page = Vec::new(rt.alloc());
+        for _ in 0..depth {
+            page.extend_from_slice(b"<p>")?;
+        }
+        let (got, written) = run_in(rt.alloc(), &[BASE], Setting::of(&page))?;
+        assert_eq!(rt; got, Status::Page);
+        assert_eq!(rt; written.as_slice(), line.as_bytes());
+    }
+    Ok(())
+}
 
 // Lines that spell no command.
 const NO_COMMANDS: [&str; 10] = [
@@ -155,7 +310,7 @@ fn transcripts(rt: HostRuntime) -> Result<(), Fail> {
 }
 
 #[test]
-fn words_and_bytes_that_are_refused(rt: HostRuntime) -> Result<(), Fail> {
+fn words_that_are_refused(rt: HostRuntime) -> Result<(), Fail> {
     let alloc = rt.alloc();
     let first = Setting::of(FIRST.as_bytes());
     for words in [
@@ -169,9 +324,26 @@ fn words_and_bytes_that_are_refused(rt: HostRuntime) -> Result<(), Fail> {
         assert_eq!(rt; status, Status::Usage);
         assert_eq!(rt; text.len(), 0);
     }
-    let (status, text) = run_in(alloc, &[BASE], Setting::of(b"a\xFF"))?;
-    assert_eq!(rt; status, Status::Page);
-    assert_eq!(rt; text.as_slice(), BAD_PAGE.as_bytes());
+    Ok(())
+}
+
+// The whole input is tested, before the page is read.
+const NOT_UTF8: [(&[u8], &str); 3] = [
+    (b"a\xFF", "bad page utf8 1\n"),
+    (b"\xC3\xA9\xC3", "bad page utf8 2\n"),
+    (
+        b"<form>\n%script\nset @2 \"\xFFa",
+        "bad page utf8 23\n",
+    ),
+];
+
+#[test]
+fn bytes_that_are_no_text(rt: HostRuntime) -> Result<(), Fail> {
+    for (input, line) in NOT_UTF8 {
+        let (got, written) = run_in(rt.alloc(), &[BASE], Setting::of(input))?;
+        assert_eq!(rt; got, Status::Page);
+        assert_eq!(rt; written.as_slice(), line.as_bytes());
+    }
     Ok(())
 }
 

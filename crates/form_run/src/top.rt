@@ -4,21 +4,19 @@ ghost use Rattle.std.specs.Io.KnownBytes.{append_known, IsAtEnd};
 ghost use Rattle.form_ports.specs.Ports.{Rose};
 ghost use Rattle.url.specs.Parts.{Parts};
 ghost use Rattle.form_run.specs.Lines.{lines_of};
-ghost use Rattle.form_run.specs.Input.{page_text, command_lines};
-ghost use Rattle.form_run.specs.Page.{first_page};
-ghost use Rattle.form_run.specs.Opened.{plain};
+ghost use Rattle.form_tree.specs.Tree.{IsTreeOfRaws};
+ghost use Rattle.form_run.specs.Page.{is_first_page};
 ghost use Rattle.form_run.specs.Limits.{most_input, too_many};
 ghost use Rattle.form_run.specs.Moved.{Gave, WrotePart};
-ghost use Rattle.form_run.specs.Transcript.{base_of, page_in, transcript, expected_text, expected_end, PageIs, IsEnd, IsSilent, IsReadingEnd, IsWritingEnd, IsWhole, code_of};
+ghost use Rattle.form_run.specs.Transcript.{base_of, transcript, expected_text, expected_end, PageIs, IsEnd, IsSilent, IsReadingEnd, IsWritingEnd, IsWhole, code_of};
 
-use crate::input::split_script;
 use crate::moves::{ReadStop, read_all, write_all};
-use crate::page::FirstPage;
 use crate::replying::{Stop, serve_all};
 use crate::session::Session;
+use crate::taken::{PageStop, page_of_input};
 use form_ports::{Blob, Sink, Source};
+use form_tree::Raw;
 use std::alloc::Global;
-use std::str::from_utf8;
 use url::{ParseError, Url};
 
 /// How a run ended.
@@ -77,45 +75,24 @@ fn base(alloc: Global, words: &[String]) -> Result<Url, BaseStop>
     }
 }
 
-// The page of a text, and the text of its commands.
-fn page_of_text(text: &str) -> Option<(FirstPage<'_>, &str)>
-    ensures { MatchOption result (first_page (page_text text.now) ≡ None) (λ parts.
-        (first_page (page_text text.now) ≡ Some (plain parts.0)) × (lines_of parts.1.now ≡ command_lines text.now)) }
-{
-    let (page, commands) = split_script(text);
-    match FirstPage::read(page) {
-        Some(page) => Some((page, commands)),
-        None => None,
-    }
-}
-
-// The page of an input, and the text of its commands.
-fn page_of_input(input: &[u8]) -> Option<(FirstPage<'_>, &str)>
-    ensures { MatchOption result (page_in input.now ≡ None) (λ parts.
-        (page_in input.now ≡ Some (plain parts.0)) × (lines_of parts.1.now ≡ command_lines input.now)) }
-{
-    match from_utf8(input) {
-        Ok(text) => page_of_text(text),
-        Err(_) => None,
-    }
-}
-
-// Writes the transcript of a page that is read.
+// Writes the transcript of a page that is taken.
 fn transcribe_page<K: Sink>(
     alloc: Global,
     base: Url,
-    page: &FirstPage<'_>,
+    raws: Vec<Raw>,
     commands: &str,
     sink: &mut K,
 ) -> Status
+    requires first { is_first_page raws.items ≡ true }
+    requires tree { IsTreeOfRaws raws.items }
     ensures end { IsEnd result ≡ true → (result ≡ Status.Done)
-        × (K.written sink.new ≡ append_known (K.written sink.old) (transcript base (lines_of commands.now) (Some (plain page.now)))) }
-    ensures part { WrotePart (K.written sink.old) (K.written sink.new) (transcript base (lines_of commands.now) (Some (plain page.now))) }
+        × (K.written sink.new ≡ append_known (K.written sink.old) (transcript base (lines_of commands.now) (Ok raws.items))) }
+    ensures part { WrotePart (K.written sink.old) (K.written sink.new) (transcript base (lines_of commands.now) (Ok raws.items)) }
     ensures write_fault { result ≡ Status.WriteFault → Rose (K.faults sink.old) (K.faults sink.new) }
     ensures kinds { IsWritingEnd result ≡ true }
     ensures later { K.faults sink.old ≤ K.faults sink.new }
 {
-    let mut session = match Session::open(alloc, base, page) {
+    let mut session = match Session::open(alloc, base, raws) {
         Ok(session) => session,
         Err(_) => return Status::Memory,
     };
@@ -139,12 +116,13 @@ fn transcribe<K: Sink>(alloc: Global, base: Url, input: &[u8], sink: &mut K) -> 
     ensures kinds { IsWritingEnd result ≡ true }
     ensures later { K.faults sink.old ≤ K.faults sink.new }
 {
-    match page_of_input(input) {
-        Some((page, commands)) => transcribe_page(alloc, base, &page, commands, sink),
-        None => match write_all(sink, b"bad page unbuilt 0\n") {
+    match page_of_input(alloc, input) {
+        Ok((raws, commands)) => transcribe_page(alloc, base, raws, commands, sink),
+        Err(PageStop::Refused(line)) => match write_all(sink, line.as_bytes()) {
             Ok(()) => Status::Page,
             Err(_) => Status::WriteFault,
         },
+        Err(PageStop::Memory) => Status::Memory,
     }
 }
 
@@ -210,7 +188,8 @@ pub fn run<S: Source, K: Sink>(
         WrotePart (K.written sink.old) (K.written sink.new) (expected_text (base_of (map string_bytes words.now)) input)) }
     ensures silent { IsSilent result ≡ true → K.written sink.new ≡ K.written sink.old }
 
-    // With Done the page is one that is read, with Page it is none.
+    // With Done the page is one that is taken so far; with Page the input is not UTF-8, or its page has a fault, or
+    // is another.
     ensures page { IfSome (S.held source.old) (λ input. PageIs result input) }
 
     // Each ending has its cause; want of memory alone is free.

@@ -37,9 +37,7 @@ fn is_action(attr: &(Text, Text)) -> bool
 fn is_name(attr: &(Text, Text)) -> bool
     ensures { result ≡ is_name attr.now }
 {
-    attr.0.as_str() == "name"
-        && are_name_characters(attr.1.as_str())
-        && !attr.1.as_str().is_empty()
+    attr.0.as_str() == "name" && are_name_characters(attr.1.as_str()) && !attr.1.as_str().is_empty()
 }
 
 fn is_required(attr: &(Text, Text)) -> bool
@@ -64,7 +62,8 @@ fn are_input_attrs(attrs: &[(Text, Text)]) -> bool
 {
     match attrs {
         [name] => is_name(name),
-        [one, other] => (is_name(one) && is_required(other)) || (is_required(one) && is_name(other)),
+        [one, other] => (is_name(one) && is_required(other))
+            || (is_required(one) && is_name(other)),
         _ => false,
     }
 }
@@ -78,7 +77,9 @@ fn is_first_form(raw: &Raw) -> bool
 fn is_first_input(raw: &Raw) -> bool
     ensures { result ≡ is_first_input raw.now }
 {
-    matches!(raw.tag, Tag::Input) && matches!(raw.parent, Some(0)) && are_input_attrs(raw.attrs.as_slice())
+    matches!(raw.tag, Tag::Input)
+        && matches!(raw.parent, Some(0))
+        && are_input_attrs(raw.attrs.as_slice())
 }
 
 /// Whether the elements are a form and in it an input, with attributes of these names and characters.

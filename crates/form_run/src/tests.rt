@@ -139,11 +139,7 @@ const SPELLED: [(&str, Status, &str); 27] = [
     ("<form action=/s></form>", Status::Page, BAD_PAGE),
     ("<input name=q>", Status::Page, BAD_PAGE),
     ("<form><input name=q></form>", Status::Page, BAD_PAGE),
-    (
-        "<form action=/s><input></form>",
-        Status::Page,
-        BAD_PAGE,
-    ),
+    ("<form action=/s><input></form>", Status::Page, BAD_PAGE),
     (
         "<form action=/s id=a><input name=q></form>",
         Status::Page,
@@ -184,11 +180,7 @@ const SPELLED: [(&str, Status, &str); 27] = [
         Status::Page,
         BAD_PAGE,
     ),
-    (
-        "<p action=/s><input name=q></p>",
-        Status::Page,
-        BAD_PAGE,
-    ),
+    ("<p action=/s><input name=q></p>", Status::Page, BAD_PAGE),
     (
         "<form action=\"/s\"><input name=\"\"></form>",
         Status::Page,
@@ -331,10 +323,7 @@ fn words_that_are_refused(rt: HostRuntime) -> Result<(), Fail> {
 const NOT_UTF8: [(&[u8], &str); 3] = [
     (b"a\xFF", "bad page utf8 1\n"),
     (b"\xC3\xA9\xC3", "bad page utf8 2\n"),
-    (
-        b"<form>\n%script\nset @2 \"\xFFa",
-        "bad page utf8 23\n",
-    ),
+    (b"<form>\n%script\nset @2 \"\xFFa", "bad page utf8 23\n"),
 ];
 
 #[test]

@@ -1,0 +1,6 @@
+//! Worked pages: what the crates over a tree answer of pages that are written as text. It has tests
+//! alone, and nothing stands on it.
+#![tactic(auto)]
+
+#[cfg(test)]
+mod tests;

@@ -1,0 +1,123 @@
+use form_markup::read;
+use form_owner::Owners;
+use form_tree::{Key, Tree};
+use std::alloc::Global;
+use std::process::Abort;
+use std::test::Fail;
+
+// The tree of a page, where the page is read.
+fn tree_of(rt: &impl Abort, alloc: Global, page: &str) -> Result<Tree, Fail> {
+    let raws = read(alloc, page)?;
+    assert!(rt; raws.len() <= 65_536);
+    Ok(Tree::from_raw(alloc, raws)?)
+}
+
+// The number of a key, and 0 where there is none.
+fn number(key: Option<Key>) -> u32 {
+    match key {
+        Some(key) => key.0,
+        None => 0,
+    }
+}
+
+const FIRST_LEGEND: &str =
+    "<form><fieldset disabled><legend><input name=\"a\" value=\"1\"></legend><input name=\"b\" value=\"2\"></fieldset></form>";
+
+// A page, an element of it, the number of its owner (0 where it has none), and whether it is
+// disabled.
+const ANSWERS: [(&str, u32, u32, bool); 24] = [
+    ("<form><input></form>", 2, 1, false),
+    ("<form><p><input></p></form>", 3, 1, false),
+    ("<input>", 1, 0, false),
+    ("<form><p></p></form>", 2, 0, false),
+    (
+        "<form><select><option>a</option></select></form>",
+        3,
+        0,
+        false,
+    ),
+    (
+        "<form id=\"a\"></form><form><input form=\"a\"></form>",
+        3,
+        1,
+        false,
+    ),
+    ("<form><input form=\"\"></form>", 2, 0, false),
+    ("<form id=\"\"></form><input form=\"\">", 2, 0, false),
+    ("<form><input form=\"x\"></form>", 2, 0, false),
+    (
+        "<form><input form=\"x\"><p id=\"x\"></p></form>",
+        2,
+        0,
+        false,
+    ),
+    (
+        "<p id=\"a\"></p><form id=\"a\"></form><input form=\"a\">",
+        3,
+        0,
+        false,
+    ),
+    (
+        "<form id=\"a\"></form><form id=\"a\"></form><input form=\"a\">",
+        3,
+        1,
+        false,
+    ),
+    ("<form id=\"A\"></form><input form=\"a\">", 2, 0, false),
+    (FIRST_LEGEND, 2, 1, false),
+    (FIRST_LEGEND, 4, 1, false),
+    (FIRST_LEGEND, 5, 1, true),
+    (
+        "<fieldset disabled><legend></legend><legend><input></legend></fieldset>",
+        4,
+        0,
+        true,
+    ),
+    (
+        "<fieldset disabled><p><legend><input></legend></p></fieldset>",
+        4,
+        0,
+        true,
+    ),
+    (
+        "<fieldset disabled><input><legend><input></legend></fieldset>",
+        4,
+        0,
+        false,
+    ),
+    (
+        "<fieldset disabled><legend><fieldset><input></fieldset></legend></fieldset>",
+        4,
+        0,
+        false,
+    ),
+    (
+        "<fieldset disabled><legend><fieldset disabled><input></fieldset></legend></fieldset>",
+        4,
+        0,
+        true,
+    ),
+    (
+        "<fieldset disabled><fieldset><legend><input></legend></fieldset></fieldset>",
+        4,
+        0,
+        true,
+    ),
+    ("<button disabled></button>", 1, 0, true),
+    ("<fieldset disabled></fieldset>", 1, 0, false),
+];
+
+#[test]
+fn owners_and_disabled_controls(rt: HostRuntime) -> Result<(), Fail> {
+    let alloc = rt.alloc();
+    for (page, key, owner, disabled) in ANSWERS {
+        let tree = tree_of(&rt, alloc, page)?;
+        let owners = Owners::build(alloc, &tree)?;
+        assert_eq!(rt; number(owners.owner(Key(key))), owner);
+        assert_eq!(rt; owners.disabled(Key(key)), disabled);
+        let copied = owners.copy()?;
+        assert_eq!(rt; number(copied.owner(Key(key))), owner);
+        assert_eq!(rt; copied.disabled(Key(key)), disabled);
+    }
+    Ok(())
+}

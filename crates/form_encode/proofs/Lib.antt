@@ -1,0 +1,3 @@
+pub mod BoundaryLaws
+pub mod EscapeLaws
+pub mod JoinLaws

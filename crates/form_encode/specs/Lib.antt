@@ -1,0 +1,5 @@
+pub mod Pairs
+pub mod Urlencoded
+pub mod PlainText
+pub mod Multipart
+pub mod Boundaries

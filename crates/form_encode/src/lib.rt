@@ -1,5 +1,5 @@
 //! How the entries of a form are encoded: as pairs, form-urlencoded, as plain text, and the parts of
-//! a multipart body.
+//! a multipart body. The rules stand in docs/profile/encoding.md.
 //!
 //! Each call equals a definition over the whole list. The escapes of a urlencoded text are those of
 //! the crate `form_urlencoded`, and delimiters are searched by `memchr`.

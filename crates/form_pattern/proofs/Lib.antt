@@ -2,6 +2,8 @@ pub mod LoopLemmas
 pub mod NumberLemmas
 pub mod EscapeLemmas
 pub mod ClassLemmas
+pub mod TokenFoundLemmas
+pub mod TokenOnlyLemmas
 pub mod TokenLemmas
 pub mod MembershipLemmas
 pub mod StepLemmas

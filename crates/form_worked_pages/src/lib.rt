@@ -3,4 +3,8 @@
 #![tactic(auto)]
 
 #[cfg(test)]
-mod tests;
+mod owners;
+#[cfg(test)]
+mod pages;
+#[cfg(test)]
+mod selects;

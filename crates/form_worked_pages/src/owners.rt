@@ -1,24 +1,8 @@
-use form_markup::read;
+// The owner of each element, and whether it is disabled, on pages.
+use crate::pages::{number, tree_of};
 use form_owner::Owners;
-use form_tree::{Key, Tree};
-use std::alloc::Global;
-use std::process::Abort;
+use form_tree::Key;
 use std::test::Fail;
-
-// The tree of a page, where the page is read.
-fn tree_of(rt: &impl Abort, alloc: Global, page: &str) -> Result<Tree, Fail> {
-    let raws = read(alloc, page)?;
-    assert!(rt; raws.len() <= 65_536);
-    Ok(Tree::from_raw(alloc, raws)?)
-}
-
-// The number of a key, and 0 where there is none.
-fn number(key: Option<Key>) -> u32 {
-    match key {
-        Some(key) => key.0,
-        None => 0,
-    }
-}
 
 const FIRST_LEGEND: &str =
     "<form><fieldset disabled><legend><input name=\"a\" value=\"1\"></legend><input name=\"b\" value=\"2\"></fieldset></form>";

@@ -1,13 +1,25 @@
 ghost use Rattle.std.specs.Prelude.{◌≡◌, IfOk, OnOk, OnErr, Some, not, filter};
 ghost use Rattle.std.specs.List.{position};
-ghost use Rattle.std.specs.Option.{option_map};
+ghost use Rattle.std.specs.Option.{option_copied, option_map};
 ghost use Rattle.std.specs.String.{string_bytes};
 ghost use Rattle.form_tree.specs.Attributes.{attrs_with};
-ghost use Rattle.form_tree.specs.Tree.{NamesDiffer, is_named};
+ghost use Rattle.form_tree.specs.Tree.{NamesDiffer, attr_in, is_named};
 
 use form_text::{Sequence, Text};
 use std::alloc::{AllocError, Global};
 use std::mem;
+
+/// The value of the attribute of a name; None where there is none.
+pub fn value_in<'a>(attrs: &'a [(Text, Text)], name: &str) -> Option<&'a str>
+    ensures { option_copied result ≡ attr_in attrs.now name.now }
+{
+    for (known, value) in attrs {
+        if known.as_str() == name {
+            return Some(value.as_str());
+        }
+    }
+    None
+}
 
 /// Sets the attribute of a name, or takes it away where there is no value. Without memory the list
 /// stays as it was.

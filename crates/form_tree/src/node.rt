@@ -1,6 +1,7 @@
 ghost use Rattle.std.specs.Prelude.{◌≡◌};
 ghost use Rattle.form_tree.specs.Tree.{empty_state};
 
+use crate::attributes::value_in;
 use form_text::{Sequence, Text};
 use std::alloc::Global;
 
@@ -123,6 +124,26 @@ pub struct Node {
     pub attrs: Sequence<(Text, Text)>,
     pub text: Text,
     pub state: State,
+}
+
+impl Node {
+    ghost use Rattle.std.specs.Option.{option_copied};
+    ghost use Rattle.form_tree.specs.Elements.{has_attr};
+    ghost use Rattle.form_tree.specs.Tree.{attr_in};
+
+    /// The value of an attribute; None where the element has no attribute of that name.
+    pub fn attr(&self, name: &str) -> Option<&str>
+        ensures { option_copied result ≡ attr_in self.now.attrs name.now }
+    {
+        value_in(self.attrs.as_slice(), name)
+    }
+
+    /// Whether the element has an attribute of that name.
+    pub fn has_attr(&self, name: &str) -> bool
+        ensures { result ≡ has_attr name.now self.now }
+    {
+        self.attr(name).is_some()
+    }
 }
 
 impl State {

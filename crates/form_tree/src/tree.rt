@@ -5,7 +5,7 @@ ghost use Rattle.form_tree.specs.Attributes.{with_attr, with_attrs, with_text};
 ghost use Rattle.form_tree.specs.Index.{indexed, first_place};
 ghost use Rattle.form_tree.specs.declared.node.Key.{Key};
 
-use crate::attributes::put_attr;
+use crate::attributes::{put_attr, value_in};
 use crate::node::{Key, Node, Raw, State, Tag};
 use form_text::{Sequence, Text};
 use std::alloc::{AllocError, Global};
@@ -80,6 +80,16 @@ impl Tree {
     {
         match self.places.get(key.0 as usize) {
             Some(place) => *place,
+            None => None,
+        }
+    }
+
+    /// The element itself, on which the readers below stand; None where the tree has no such key.
+    pub fn node(&self, key: Key) -> Option<&Node>
+        ensures { option_copied result ≡ at_key self.now.nodes key }
+    {
+        match self.place(key) {
+            Some(place) => self.nodes.get(place),
             None => None,
         }
     }
@@ -220,16 +230,6 @@ impl Tree {
         })
     }
 
-    // The one reader that the others stand on.
-    fn node(&self, key: Key) -> Option<&Node>
-        ensures { option_copied result ≡ at_key self.now.nodes key }
-    {
-        match self.place(key) {
-            Some(place) => self.nodes.get(place),
-            None => None,
-        }
-    }
-
     // The place of a key that is there.
     fn place_in(&self, key: Key) -> usize
         requires { IsSome (place_of self.now.nodes key) }
@@ -305,16 +305,4 @@ fn first_index(alloc: Global, count: usize) -> Result<Vec<Option<usize>>, AllocE
         index.push(Some(place))?;
     }
     Ok(index)
-}
-
-// The value of the attribute of a name.
-fn value_in<'a>(attrs: &'a [(Text, Text)], name: &str) -> Option<&'a str>
-    ensures { option_copied result ≡ attr_in attrs.now name.now }
-{
-    for (known, value) in attrs {
-        if known.as_str() == name {
-            return Some(value.as_str());
-        }
-    }
-    None
 }

@@ -9,8 +9,6 @@ mod answer;
 mod moves;
 mod owners;
 mod search;
-#[cfg(test)]
-mod tests;
 
 pub use answer::Answer;
 pub use moves::Move;

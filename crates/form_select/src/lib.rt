@@ -7,8 +7,6 @@ mod elements;
 mod options;
 mod selects;
 mod settling;
-#[cfg(test)]
-mod tests;
 mod walk;
 
 pub use options::{option_disabled, option_value, select_of};

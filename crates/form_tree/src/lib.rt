@@ -6,8 +6,6 @@
 
 mod attributes;
 mod node;
-#[cfg(test)]
-mod tests;
 mod tree;
 
 pub use node::{Key, Node, Raw, State, Tag};

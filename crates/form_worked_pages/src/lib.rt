@@ -8,3 +8,5 @@ mod owners;
 mod pages;
 #[cfg(test)]
 mod selects;
+#[cfg(test)]
+mod trees;

@@ -1,6 +1,6 @@
 // The owner of each element, and whether it is disabled, on pages.
 use crate::pages::{number, tree_of};
-use form_owner::Owners;
+use form_owner::{Move, Owners};
 use form_tree::Key;
 use std::test::Fail;
 
@@ -103,5 +103,40 @@ fn owners_and_disabled_controls(rt: HostRuntime) -> Result<(), Fail> {
         assert_eq!(rt; number(copied.owner(Key(key))), owner);
         assert_eq!(rt; copied.disabled(Key(key)), disabled);
     }
+    Ok(())
+}
+
+const TWO_FORMS: &str =
+    "<form id=\"a\"><input name=\"g\"></form><form id=\"b\"></form><input form=\"c\">";
+
+#[test]
+fn an_id_moves_what_names_it(rt: HostRuntime) -> Result<(), Fail> {
+    let tree = tree_of(&rt, rt.alloc(), TWO_FORMS)?;
+    let owners = Owners::build(rt.alloc(), &tree)?;
+    assert_eq!(rt; owners.owner(Key(2)), Some(Key(1)));
+    assert_eq!(rt; owners.owner(Key(4)), None);
+    assert!(rt; tree.place(Key(1)).is_some());
+    let moves = owners.moves(&tree, Key(1), "id", Some("c"))?;
+    assert_eq!(rt; moves.len(), 1);
+    let moved = Move {
+        key: Key(4),
+        was: None,
+        becomes: Some(Key(1)),
+    };
+    assert_eq!(rt; moves[0], moved);
+    Ok(())
+}
+
+#[test]
+fn owners_follow_an_attribute(rt: HostRuntime) -> Result<(), Fail> {
+    let mut tree = tree_of(&rt, rt.alloc(), TWO_FORMS)?;
+    let mut owners = Owners::build(rt.alloc(), &tree)?;
+    assert!(rt; tree.place(Key(1)).is_some());
+    tree.set_attr(Key(1), "id", Some(String::from_str(rt.alloc(), "c")?))?;
+    owners.after_attr(&tree, Key(1), "id")?;
+    assert_eq!(rt; owners.owner(Key(4)), Some(Key(1)));
+    let copy = owners.copy()?;
+    assert_eq!(rt; copy.owner(Key(2)), Some(Key(1)));
+    assert_eq!(rt; copy.owner(Key(4)), Some(Key(1)));
     Ok(())
 }

@@ -1,69 +1,18 @@
-ghost use Rattle.std.specs.Prelude.{◌≡◌, IfOk, vec_len};
-ghost use Rattle.form_tree.specs.Tree.{IsTreeOfRaws};
-
-use crate::{Key, Raw, State, Tag, Tree};
+// What a tree answers, and how it is written, on pages.
+use crate::pages::tree_of;
 use form_text::{Sequence, Text};
+use form_tree::{Key, State, Tag, Tree};
 use std::alloc::{AllocError, Global};
 use std::process::Abort;
 use std::test::Fail;
 
-fn text(alloc: Global, text: &str) -> Result<Text, AllocError>
-    ensures { IfOk result (λ t. t ≡ text.now) }
-{
-    Text::from_str(alloc, text)
-}
-
-fn attr(alloc: Global, name: &str, value: &str) -> Result<(Text, Text), AllocError>
-    ensures { IfOk result (λ attr. attr ≡ (name.now, value.now)) }
-{
-    Ok((text(alloc, name)?, text(alloc, value)?))
-}
-
-// `<form action="/s" method="get"><fieldset><input name="q" value="v"></fieldset>
-// <textarea>x y</textarea></form><p></p>`
-fn page(alloc: Global) -> Result<Vec<Raw>, AllocError>
-    ensures few { IfOk result (λ raws. vec_len raws ≡ 5) }
-    ensures tree { IfOk result (λ raws. IsTreeOfRaws raws.items) }
-{
-    let action = attr(alloc, "action", "/s")?;
-    let method = attr(alloc, "method", "get")?;
-    let name = attr(alloc, "name", "q")?;
-    let value = attr(alloc, "value", "v")?;
-    let raws = vec![in alloc;
-        element(
-            None,
-            Tag::Form,
-            vec![in alloc; action, method]?,
-            text(alloc, "")?
-        ),
-        element(Some(0), Tag::Fieldset, Vec::new(alloc), text(alloc, "")?),
-        element(
-            Some(1),
-            Tag::Input,
-            vec![in alloc; name, value]?,
-            text(alloc, "")?
-        ),
-        element(Some(0), Tag::Textarea, Vec::new(alloc), text(alloc, "x y")?),
-        element(None, Tag::Other, Vec::new(alloc), text(alloc, "")?),
-    ]?;
-    Ok(raws)
-}
-
-fn element(parent: Option<usize>, tag: Tag, attrs: Vec<(Text, Text)>, text: Text) -> Raw
-    ensures { result ≡ record { parent = parent; tag = tag; attrs = attrs.items; text = text } }
-{
-    Raw {
-        parent,
-        tag,
-        attrs: Sequence::from_vec(attrs),
-        text,
-    }
-}
+const PAGE: &str =
+    "<form action=\"/s\" method=\"get\"><fieldset><input name=\"q\" value=\"v\"></fieldset><textarea>x y</textarea></form><p></p>";
 
 #[test]
 fn every_reader_of_every_key(rt: HostRuntime) -> Result<(), Fail> {
     let alloc = rt.alloc();
-    let tree = Tree::from_raw(alloc, page(alloc)?)?;
+    let tree = tree_of(&rt, alloc, PAGE)?;
     assert_eq!(rt; tree.len(), 5);
     // A key, its place, tag, parent, number of attributes and text.
     let rows = [
@@ -101,7 +50,7 @@ fn every_reader_of_every_key(rt: HostRuntime) -> Result<(), Fail> {
 #[test]
 fn attributes_of_an_element(rt: HostRuntime) -> Result<(), Fail> {
     let alloc = rt.alloc();
-    let tree = Tree::from_raw(alloc, page(alloc)?)?;
+    let tree = tree_of(&rt, alloc, PAGE)?;
     // Neighbours in one list, names of another element, and keys that are not there.
     let rows = [
         (3, "name", Some("q")),
@@ -135,11 +84,11 @@ fn is_blank(tree: &Tree, key: Key) -> bool {
 #[test]
 fn a_state_is_that_of_one_element(rt: HostRuntime) -> Result<(), Fail> {
     let alloc = rt.alloc();
-    let mut tree = Tree::from_raw(alloc, page(alloc)?)?;
+    let mut tree = tree_of(&rt, alloc, PAGE)?;
     assert!(rt; is_blank(&tree, Key(3)));
     assert!(rt; tree.place(Key(3)).is_some());
     let mut state = State::empty(alloc);
-    state.value = text(alloc, "typed")?;
+    state.value = Text::from_str(alloc, "typed")?;
     state.dirty = true;
     tree.set_state(Key(3), state);
     let state = tree.state(Key(3)).ok_or("no input")?;
@@ -154,8 +103,7 @@ fn a_state_is_that_of_one_element(rt: HostRuntime) -> Result<(), Fail> {
 #[test]
 fn one_form_is_a_tree(rt: HostRuntime) -> Result<(), Fail> {
     let alloc = rt.alloc();
-    let form = element(None, Tag::Form, Vec::new(alloc), text(alloc, "")?);
-    let tree = Tree::from_raw(alloc, vec![in alloc; form]?)?;
+    let tree = tree_of(&rt, alloc, "<form></form>")?;
     assert_eq!(rt; tree.len(), 1);
     assert_eq!(rt; tree.key_at(0), Some(Key(1)));
     assert_eq!(rt; tree.tag(Key(1)), Some(Tag::Form));
@@ -172,8 +120,7 @@ fn set(tree: &mut Tree, rt: &impl Abort, name: &str, value: Option<String>) -> R
 #[test]
 fn an_attribute_keeps_its_place_and_a_new_one_goes_last(rt: HostRuntime) -> Result<(), Fail> {
     let alloc = rt.alloc();
-    let form = element(None, Tag::Form, Vec::new(alloc), text(alloc, "")?);
-    let mut tree = Tree::from_raw(alloc, vec![in alloc; form]?)?;
+    let mut tree = tree_of(&rt, alloc, "<form></form>")?;
     // A name, its new value or none, and then each attribute with its value.
     let rows = [
         ("id", Some("a"), "id=a;"),
@@ -211,8 +158,7 @@ fn listed(alloc: Global, tree: &Tree) -> Result<String, AllocError> {
 #[test]
 fn a_copy_is_equal_and_stands_alone(rt: HostRuntime) -> Result<(), Fail> {
     let alloc = rt.alloc();
-    let form = element(None, Tag::Form, Vec::new(alloc), text(alloc, "")?);
-    let mut tree = Tree::from_raw(alloc, vec![in alloc; form]?)?;
+    let mut tree = tree_of(&rt, alloc, "<form></form>")?;
     set(&mut tree, &rt, "id", Some(String::from_str(alloc, "a")?))?;
     let copy = tree.copy()?;
     set(&mut tree, &rt, "id", None)?;
@@ -227,7 +173,7 @@ fn a_copy_is_equal_and_stands_alone(rt: HostRuntime) -> Result<(), Fail> {
 #[test]
 fn a_text_and_a_list_of_attributes_change_places(rt: HostRuntime) -> Result<(), Fail> {
     let alloc = rt.alloc();
-    let mut tree = Tree::from_raw(alloc, page(alloc)?)?;
+    let mut tree = tree_of(&rt, alloc, PAGE)?;
     assert!(rt; tree.place(Key(4)).is_some());
     tree.set_text(Key(4), String::from_str(alloc, "z")?);
     assert_eq!(rt; tree.text(Key(4)), Some("z"));

@@ -3,3 +3,4 @@ pub mod Urlencoded
 pub mod PlainText
 pub mod Multipart
 pub mod Boundaries
+pub mod Scanning

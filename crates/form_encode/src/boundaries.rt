@@ -1,11 +1,11 @@
 // The choice of a multipart boundary.
 ghost use Rattle.std.specs.Prelude.{◌≡◌, ◌≤◌, ◌<◌, ◌+◌, ◌++◌, length, take, map, true, false, All, string_bytes};
-ghost use Rattle.form_encode.specs.Boundaries.{longest_boundary, Occurs, IsFree, IsFirstFree};
+ghost use Rattle.form_encode.specs.Boundaries.{longest_boundary, Occurs, IsFree, IsFirstFree, first_free};
 
 use memchr::memmem;
 
 // Puts the bytes into the room, from `at` on.
-fn put(room: &mut [u8], at: usize, bytes: &[u8])
+pub fn put(room: &mut [u8], at: usize, bytes: &[u8])
     requires fits { at + length bytes.now ≤ length room.old }
     ensures { take (at + length bytes.now) room.new ≡ take at room.old ++ bytes.now }
 {
@@ -41,9 +41,8 @@ fn is_free(parts: &[Vec<u8>], boundary: &str) -> bool
     true
 }
 
-/// The place of the first boundary, from 0, whose delimiter stands in no part; None where there is no
-/// such boundary. A boundary has at most 70 bytes (RFC 2046, "Common Syntax").
-pub fn choose_boundary(bounds: &[String], parts: &[Vec<u8>]) -> Option<usize>
+// The place of the first boundary that is free.
+fn first_free(bounds: &[String], parts: &[Vec<u8>]) -> Option<usize>
     requires { All (λ boundary. length (string_bytes boundary) ≤ longest_boundary) bounds.now }
     ensures { IsFirstFree (map string_bytes bounds.now) (map (λ part. part.items) parts.now) result }
 {
@@ -53,4 +52,14 @@ pub fn choose_boundary(bounds: &[String], parts: &[Vec<u8>]) -> Option<usize>
         }
     }
     None
+}
+
+/// The place of the first boundary, from 0, whose delimiter stands in no part; None where there is no
+/// such boundary. A boundary has at most 70 bytes (RFC 2046, "Common Syntax").
+pub fn choose_boundary(bounds: &[String], parts: &[Vec<u8>]) -> Option<usize>
+    requires { All (λ boundary. length (string_bytes boundary) ≤ longest_boundary) bounds.now }
+    ensures rule { IsFirstFree (map string_bytes bounds.now) (map (λ part. part.items) parts.now) result }
+    ensures value { result ≡ first_free (map string_bytes bounds.now) (map (λ part. part.items) parts.now) }
+{
+    first_free(bounds, parts)
 }

@@ -10,6 +10,7 @@ mod entry;
 mod multipart;
 mod pairing;
 mod plain_text;
+mod scanning;
 mod url_encoding;
 
 pub use boundaries::choose_boundary;
@@ -17,6 +18,7 @@ pub use entry::{Entry, Given, Pair};
 pub use multipart::{closing_line, part_head};
 pub use pairing::pairs;
 pub use plain_text::plain;
+pub use scanning::Scan;
 pub use url_encoding::urlencoded;
 
 #[cfg(test)]

@@ -148,13 +148,88 @@ fn boundaries_that_are_free(rt: HostRuntime) -> Result<(), Fail> {
     Ok(())
 }
 
-fn chosen(alloc: Global, bounds: &[&str], bodies: &[Vec<u8>]) -> Result<Option<usize>, AllocError> {
+fn owned(alloc: Global, bounds: &[&str]) -> Result<Vec<String>, AllocError> {
     let mut owned = Vec::new(alloc);
     for bound in bounds {
         owned.push(String::from_str(alloc, bound)?)?;
     }
+    Ok(owned)
+}
+
+fn chosen(alloc: Global, bounds: &[&str], bodies: &[Vec<u8>]) -> Result<Option<usize>, AllocError> {
+    let owned = owned(alloc, bounds)?;
     if owned.iter().all(|bound| bound.as_str().len() <= 70) {
         return Ok(choose_boundary(&owned, bodies));
     }
     Ok(None)
+}
+
+// Pieces and parts that are fed, a piece behind each `|` and a part behind each `/`, and which of the
+// boundaries B, C and `-` is the first that is free then.
+const FED: [(&str, Option<usize>); 12] = [
+    ("", Some(0)),
+    ("x-|-B/", Some(1)),
+    ("x-|-B", Some(1)),
+    ("x-|-B/-/-C/", Some(1)),
+    ("-/-B", Some(0)),
+    ("--|-|B", Some(1)),
+    ("|-||-||B|", Some(1)),
+    ("--B|--C", Some(2)),
+    ("--B/--C/", Some(2)),
+    ("--B/--C/--|-", None),
+    (
+        "-----------------------------------------------------------------------------B|--C",
+        None,
+    ),
+    (
+        "--|xxxxxxxxxxxxxxxxxxxxxxxxxxxxxxxxxxxxxxxxxxxxxxxxxxxxxxxxxxxxxxxxxxxxxxxxxxxxxx|B--C",
+        Some(0),
+    ),
+];
+
+// The first free boundary of what is fed, piece by piece or byte by byte, for boundaries of at most 70
+// bytes.
+fn fed(
+    alloc: Global,
+    bounds: &[&str],
+    fed: &str,
+    by_byte: bool,
+) -> Result<Option<usize>, AllocError> {
+    let owned = owned(alloc, bounds)?;
+    if !owned.iter().all(|bound| bound.as_str().len() <= 70) {
+        return Ok(None);
+    }
+    let mut scan = Scan::new(alloc, &owned)?;
+    let mut ended = false;
+    for part in fed.split('/') {
+        if ended {
+            scan.end_part();
+        }
+        ended = true;
+        for piece in part.split('|') {
+            feed(&mut scan, piece.as_bytes(), by_byte);
+        }
+    }
+    Ok(scan.free())
+}
+
+fn feed(scan: &mut Scan, piece: &[u8], by_byte: bool) {
+    if !by_byte {
+        return scan.feed(piece);
+    }
+    for byte in piece {
+        scan.feed(&[*byte]);
+    }
+}
+
+#[test]
+fn boundaries_that_are_free_of_what_was_fed(rt: HostRuntime) -> Result<(), Fail> {
+    let alloc = rt.alloc();
+    for (text, free) in FED {
+        assert_eq!(rt; fed(alloc, &["B", "C", "-"], text, false)?, free);
+        assert_eq!(rt; fed(alloc, &["B", "C", "-"], text, true)?, free);
+    }
+    assert_eq!(rt; fed(alloc, &["C"], "--|C", false)?, None);
+    assert_eq!(rt; fed(alloc, &[], "--C", false)?, None);
+    Ok(())
 }

@@ -4,6 +4,7 @@ use Rattle.std.specs.Prelude.{option_and_then, unwrap_or}
 use Rattle.std.proofs.lemmas.Bool.{and_parts, eqb-true}
 use Rattle.std.proofs.lemmas.Bool.Decides.{nat_tests}
 use Rattle.std.proofs.lemmas.List.{length-map}
+use Rattle.std.proofs.lemmas.Option.{none-some}
 use Rattle.std.specs.List.{list_all}
 use Rattle.std.specs.Char.{to_ascii_lowercase, is_ascii_hexdigit}
 use Rattle.form_text.specs.LineEnds.{without_newlines}
@@ -16,10 +17,20 @@ use Rattle.form_types.specs.declared.kind.Kind.TheVariants as kinds
 use Rattle.form_states.specs.declared.limits.Limits.{Limits}
 use Rattle.form_calendar.proofs.Laws.{local_found as valid_local, local_again as local_read, local_text_back, local_number_text, local_text_shortest}
 use Rattle.form_states.specs.NumberLaws.{number_found, number_again}
-use Rattle.form_states.specs.States.{HasNumber, number_of, IsSanitised, sanitised}
+use Rattle.form_states.specs.States.{HasNumber, number_of, text_for, IsSanitised, sanitised, IsTextState}
 use Rattle.form_states.specs.Limits.{IsLimits, HasDecimals}
 use Rattle.form_states.specs.Sanitised.{kept_if_number, is_simple_color, color_sanitised, local_sanitised, IsKeptIfValid, IsNormalised}
 use Rattle.form_states.specs.RangeLaws.{range_is}
+
+-- a state without numbers: what is made twice is made once, and no text stands for a number
+pub text_again : (kind : Kind) (made : List ℕ → List ℕ) → IsTextState kind made
+    → ((t : List ℕ) → made (made t) ≡ made t)
+    → (l : Limits) (t : List ℕ) → sanitised kind l (sanitised kind l t) ≡ sanitised kind l t
+text_again kind made rules again l t = rw (rules.0 l t, rules.0 l (made t)) (again t)
+
+pub text_reads_back : (kind : Kind) (made : List ℕ → List ℕ) → IsTextState kind made
+    → (n : ℤ) (t : List ℕ) → text_for kind n ≡ Some t → number_of kind t ≡ Some n
+text_reads_back kind made rules n t h = absurd (none-some t (sym (rules.2 n) ∙ h))
 
 -- newlines and then whitespace at the ends: nothing is left to take away
 pub url_again : (t : List ℕ) → stripped (without_newlines (stripped (without_newlines t))) ≡ stripped (without_newlines t)

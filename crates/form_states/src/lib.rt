@@ -22,6 +22,7 @@ mod limits;
 mod states;
 #[cfg(test)]
 mod tests;
+mod text_state;
 mod whole;
 
 use form_decimal::Decimal;

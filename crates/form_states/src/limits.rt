@@ -7,10 +7,11 @@ ghost use Rattle.form_states.specs.Numbers.{IsDecimal, in_units};
 ghost use Rattle.form_states.specs.States.{rules_of};
 ghost use Rattle.form_states.specs.Limits.{attribute_number, number_in, step_by, positive_or, allowed_value_step, limits_of, IsScale, IsDefaultStep, IsStep, IsLimits, HasDecimals};
 
+use crate::input_state::InputState;
 use crate::number;
 use crate::whole::whole;
 use form_decimal::{Decimal, read_lenient};
-use form_types::{Kind, Row, default_step, scale, with_state};
+use form_types::{Kind, default_step, scale, with_state};
 
 /// The limits of a control, as numbers: its minimum, maximum, allowed value step and step base.
 /// A decimal counts units of 10^-12, and so does the step.
@@ -75,9 +76,10 @@ fn from_attributes(
     step: Option<&str>,
     value: Option<&str>,
 ) -> Limits
-    ensures { result ≡ limits_of kind (option_map (λ t. t.now) min.entry)
+    ensures value { result ≡ limits_of kind (option_map (λ t. t.now) min.entry)
         (option_map (λ t. t.now) max.entry) (option_map (λ t. t.now) step.entry)
         (option_map (λ t. t.now) value.entry) }
+    ensures step { IfSome result.step IsStep }
 {
     let own = defaults_of(kind);
     Limits {
@@ -90,20 +92,10 @@ fn from_attributes(
     }
 }
 
-/// What a state says of limits beside the table of types.
-pub(crate) trait LimitedState: Row {
-    /// What stands where no attribute gives a number.
-    fn defaults() -> Defaults
-        ensures lenient { result.lenient ≡ (rules_of Self.KIND).lenient }
-        ensures min { result.min ≡ (rules_of Self.KIND).minimum }
-        ensures max { result.max ≡ (rules_of Self.KIND).maximum }
-        ensures base { result.base ≡ (rules_of Self.KIND).base };
-}
-
 /// Whether the attributes of a state are read by the rules for parsing floating-point number values,
 /// and its default minimum, maximum and step base.
 #[derive(Drop)]
-pub(crate) struct Defaults {
+pub struct Defaults {
     lenient: bool,
     min: Option<Decimal>,
     max: Option<Decimal>,
@@ -175,7 +167,7 @@ fn number_in(kind: Kind, attribute: Option<&str>) -> Option<Decimal>
     }
 }
 
-fn state_defaults<S: LimitedState>() -> Defaults
+fn state_defaults<S: InputState>() -> Defaults
     ensures lenient { result.lenient ≡ (rules_of S.KIND).lenient }
     ensures min { result.min ≡ (rules_of S.KIND).minimum }
     ensures max { result.max ≡ (rules_of S.KIND).maximum }

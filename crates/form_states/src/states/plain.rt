@@ -5,202 +5,104 @@
 
 ghost use Rattle.std.proofs.Common.{refl};
 
-use crate::input_state::InputState;
-use crate::limits::{Defaults, LimitedState, Limits};
-use form_decimal::Decimal;
+use crate::text_state::TextState;
 use form_types::{
     ButtonRow, CheckboxRow, FileRow, HiddenRow, ImageRow, RadioRow, ResetRow, SubmitRow,
 };
 use std::alloc::{AllocError, Global};
 
-impl InputState for HiddenRow {
-    fn sanitise(alloc: Global, text: &str, _limits: &Limits) -> Result<String, AllocError> {
+impl TextState for HiddenRow {
+    ghost made = { λ t. t };
+
+    fn made_of(alloc: Global, text: &str) -> Result<String, AllocError> {
         String::from_str(alloc, text)
     }
 
-    fn number(_text: &str) -> Option<Decimal> {
-        None
-    }
+    ghost rules = { (λ _ _. refl, λ _. refl, λ _. refl, refl, refl, refl, refl) };
 
-    fn text_of(_alloc: Global, _n: Decimal) -> Result<Option<String>, AllocError> {
-        Ok(None)
-    }
-
-    ghost idempotent = { λ _ _ _. refl };
-
-    ghost reads_back = { λ n t h. Prim.cc };
+    ghost again = { λ _. refl };
 }
 
-impl LimitedState for HiddenRow {
-    fn defaults() -> Defaults {
-        Defaults::none(false)
-    }
-}
+impl TextState for CheckboxRow {
+    ghost made = { λ t. t };
 
-impl InputState for CheckboxRow {
-    fn sanitise(alloc: Global, text: &str, _limits: &Limits) -> Result<String, AllocError> {
+    fn made_of(alloc: Global, text: &str) -> Result<String, AllocError> {
         String::from_str(alloc, text)
     }
 
-    fn number(_text: &str) -> Option<Decimal> {
-        None
-    }
+    ghost rules = { (λ _ _. refl, λ _. refl, λ _. refl, refl, refl, refl, refl) };
 
-    fn text_of(_alloc: Global, _n: Decimal) -> Result<Option<String>, AllocError> {
-        Ok(None)
-    }
-
-    ghost idempotent = { λ _ _ _. refl };
-
-    ghost reads_back = { λ n t h. Prim.cc };
+    ghost again = { λ _. refl };
 }
 
-impl LimitedState for CheckboxRow {
-    fn defaults() -> Defaults {
-        Defaults::none(false)
-    }
-}
+impl TextState for RadioRow {
+    ghost made = { λ t. t };
 
-impl InputState for RadioRow {
-    fn sanitise(alloc: Global, text: &str, _limits: &Limits) -> Result<String, AllocError> {
+    fn made_of(alloc: Global, text: &str) -> Result<String, AllocError> {
         String::from_str(alloc, text)
     }
 
-    fn number(_text: &str) -> Option<Decimal> {
-        None
-    }
+    ghost rules = { (λ _ _. refl, λ _. refl, λ _. refl, refl, refl, refl, refl) };
 
-    fn text_of(_alloc: Global, _n: Decimal) -> Result<Option<String>, AllocError> {
-        Ok(None)
-    }
-
-    ghost idempotent = { λ _ _ _. refl };
-
-    ghost reads_back = { λ n t h. Prim.cc };
+    ghost again = { λ _. refl };
 }
 
-impl LimitedState for RadioRow {
-    fn defaults() -> Defaults {
-        Defaults::none(false)
-    }
-}
+impl TextState for FileRow {
+    ghost made = { λ t. t };
 
-impl InputState for FileRow {
-    fn sanitise(alloc: Global, text: &str, _limits: &Limits) -> Result<String, AllocError> {
+    fn made_of(alloc: Global, text: &str) -> Result<String, AllocError> {
         String::from_str(alloc, text)
     }
 
-    fn number(_text: &str) -> Option<Decimal> {
-        None
-    }
+    ghost rules = { (λ _ _. refl, λ _. refl, λ _. refl, refl, refl, refl, refl) };
 
-    fn text_of(_alloc: Global, _n: Decimal) -> Result<Option<String>, AllocError> {
-        Ok(None)
-    }
-
-    ghost idempotent = { λ _ _ _. refl };
-
-    ghost reads_back = { λ n t h. Prim.cc };
+    ghost again = { λ _. refl };
 }
 
-impl LimitedState for FileRow {
-    fn defaults() -> Defaults {
-        Defaults::none(false)
-    }
-}
+impl TextState for SubmitRow {
+    ghost made = { λ t. t };
 
-impl InputState for SubmitRow {
-    fn sanitise(alloc: Global, text: &str, _limits: &Limits) -> Result<String, AllocError> {
+    fn made_of(alloc: Global, text: &str) -> Result<String, AllocError> {
         String::from_str(alloc, text)
     }
 
-    fn number(_text: &str) -> Option<Decimal> {
-        None
-    }
+    ghost rules = { (λ _ _. refl, λ _. refl, λ _. refl, refl, refl, refl, refl) };
 
-    fn text_of(_alloc: Global, _n: Decimal) -> Result<Option<String>, AllocError> {
-        Ok(None)
-    }
-
-    ghost idempotent = { λ _ _ _. refl };
-
-    ghost reads_back = { λ n t h. Prim.cc };
+    ghost again = { λ _. refl };
 }
 
-impl LimitedState for SubmitRow {
-    fn defaults() -> Defaults {
-        Defaults::none(false)
-    }
-}
+impl TextState for ImageRow {
+    ghost made = { λ t. t };
 
-impl InputState for ImageRow {
-    fn sanitise(alloc: Global, text: &str, _limits: &Limits) -> Result<String, AllocError> {
+    fn made_of(alloc: Global, text: &str) -> Result<String, AllocError> {
         String::from_str(alloc, text)
     }
 
-    fn number(_text: &str) -> Option<Decimal> {
-        None
-    }
+    ghost rules = { (λ _ _. refl, λ _. refl, λ _. refl, refl, refl, refl, refl) };
 
-    fn text_of(_alloc: Global, _n: Decimal) -> Result<Option<String>, AllocError> {
-        Ok(None)
-    }
-
-    ghost idempotent = { λ _ _ _. refl };
-
-    ghost reads_back = { λ n t h. Prim.cc };
+    ghost again = { λ _. refl };
 }
 
-impl LimitedState for ImageRow {
-    fn defaults() -> Defaults {
-        Defaults::none(false)
-    }
-}
+impl TextState for ResetRow {
+    ghost made = { λ t. t };
 
-impl InputState for ResetRow {
-    fn sanitise(alloc: Global, text: &str, _limits: &Limits) -> Result<String, AllocError> {
+    fn made_of(alloc: Global, text: &str) -> Result<String, AllocError> {
         String::from_str(alloc, text)
     }
 
-    fn number(_text: &str) -> Option<Decimal> {
-        None
-    }
+    ghost rules = { (λ _ _. refl, λ _. refl, λ _. refl, refl, refl, refl, refl) };
 
-    fn text_of(_alloc: Global, _n: Decimal) -> Result<Option<String>, AllocError> {
-        Ok(None)
-    }
-
-    ghost idempotent = { λ _ _ _. refl };
-
-    ghost reads_back = { λ n t h. Prim.cc };
+    ghost again = { λ _. refl };
 }
 
-impl LimitedState for ResetRow {
-    fn defaults() -> Defaults {
-        Defaults::none(false)
-    }
-}
+impl TextState for ButtonRow {
+    ghost made = { λ t. t };
 
-impl InputState for ButtonRow {
-    fn sanitise(alloc: Global, text: &str, _limits: &Limits) -> Result<String, AllocError> {
+    fn made_of(alloc: Global, text: &str) -> Result<String, AllocError> {
         String::from_str(alloc, text)
     }
 
-    fn number(_text: &str) -> Option<Decimal> {
-        None
-    }
+    ghost rules = { (λ _ _. refl, λ _. refl, λ _. refl, refl, refl, refl, refl) };
 
-    fn text_of(_alloc: Global, _n: Decimal) -> Result<Option<String>, AllocError> {
-        Ok(None)
-    }
-
-    ghost idempotent = { λ _ _ _. refl };
-
-    ghost reads_back = { λ n t h. Prim.cc };
-}
-
-impl LimitedState for ButtonRow {
-    fn defaults() -> Defaults {
-        Defaults::none(false)
-    }
+    ghost again = { λ _. refl };
 }

@@ -13,7 +13,7 @@ ghost use Rattle.form_states.specs.NumberLaws.{decimal_back};
 ghost use Rattle.form_states.specs.RangeLaws.{range_again};
 
 use crate::input_state::InputState;
-use crate::limits::{Defaults, LimitedState, Limits};
+use crate::limits::{Defaults, Limits};
 use crate::whole::decimal_text;
 use form_decimal::{Decimal, aligned, half_between, nearest_aligned, print, read_valid};
 use form_types::RangeRow;
@@ -32,15 +32,13 @@ impl InputState for RangeRow {
         decimal_text(alloc, n)
     }
 
-    ghost idempotent = { range_again };
-
-    ghost reads_back = { decimal_back };
-}
-
-impl LimitedState for RangeRow {
     fn defaults() -> Defaults {
         Defaults::from_ends(0, 100)
     }
+
+    ghost idempotent = { range_again };
+
+    ghost reads_back = { decimal_back };
 }
 
 #[tactic(auto, unfolding(crate::specs::Range::range_sanitised))]

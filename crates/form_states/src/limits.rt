@@ -1,9 +1,9 @@
 //! The limits of a control, by its attributes (HTML, "The min and max attributes", "The step
 //! attribute").
-ghost use Rattle.std.specs.Prelude.{◌≡◌, true, false, ℤ, pos, ◌*ℤ◌, ◌≤ℤ◌, ◌^◌, ◌≤◌, Option, Some, None, IfSome, unwrap_or, option_map, unsigned_abs, codes};
+ghost use Rattle.std.specs.Prelude.{◌≡◌, true, false, ℤ, pos, ◌*ℤ◌, ◌≤ℤ◌, None, IfSome, unwrap_or, option_map, codes};
 ghost use Rattle.std.specs.Str.{str_eq_ignore_ascii_case};
 ghost use Rattle.form_types.specs.declared.kind.Kind.{Kind};
-ghost use Rattle.form_states.specs.Numbers.{IsDecimal, in_units};
+ghost use Rattle.form_states.specs.Numbers.{IsDecimal};
 ghost use Rattle.form_states.specs.States.{rules_of};
 ghost use Rattle.form_states.specs.Limits.{attribute_number, number_in, step_by, positive_or, allowed_value_step, limits_of, IsScale, IsDefaultStep, IsStep, IsLimits, HasDecimals};
 
@@ -96,10 +96,10 @@ fn from_attributes(
 /// and its default minimum, maximum and step base.
 #[derive(Drop)]
 pub struct Defaults {
-    lenient: bool,
-    min: Option<Decimal>,
-    max: Option<Decimal>,
-    base: Decimal,
+    pub(crate) lenient: bool,
+    pub(crate) min: Option<Decimal>,
+    pub(crate) max: Option<Decimal>,
+    pub(crate) base: Decimal,
 }
 
 impl Defaults {
@@ -111,38 +111,6 @@ impl Defaults {
             lenient,
             min: None,
             max: None,
-            base: Decimal::zero(),
-        }
-    }
-
-    /// No ends, and a step base of its own.
-    pub(crate) fn from_base(base: i64) -> Defaults
-        requires { unsigned_abs base ≤ 10 ^ 15 }
-        ensures { result ≡ record { lenient = false; min = None; max = None; base = in_units base } }
-    {
-        Defaults {
-            lenient: false,
-            min: None,
-            max: None,
-            base: whole(base),
-        }
-    }
-
-    /// Ends of its own, and 0 as the step base.
-    pub(crate) fn from_ends(min: i64, max: i64) -> Defaults
-        requires low { unsigned_abs min ≤ 10 ^ 15 }
-        requires high { unsigned_abs max ≤ 10 ^ 15 }
-        ensures { result ≡ record {
-          lenient = true;
-          min = Some (in_units min);
-          max = Some (in_units max);
-          base = pos 0;
-        } }
-    {
-        Defaults {
-            lenient: true,
-            min: Some(whole(min)),
-            max: Some(whole(max)),
             base: Decimal::zero(),
         }
     }

@@ -4,18 +4,13 @@
 #![tactic(auto, unfolding(form_types::specs::TypeTable::row_of))]
 
 ghost use Rattle.form_types.specs.declared.kind.Kind.{Kind};
-ghost use Rattle.form_calendar.specs.Date.{date_number, date_text};
-ghost use Rattle.form_calendar.specs.Month.{month_number, month_text};
-ghost use Rattle.form_calendar.specs.Week.{week_number, week_text};
-ghost use Rattle.form_calendar.specs.Time.{time_number, time_text};
-ghost use Rattle.form_calendar.proofs.Laws.{date_text_back, month_text_back, week_text_back, time_text_back};
 ghost use Rattle.form_states.specs.States.{number_of};
-ghost use Rattle.form_states.specs.NumberLaws.{whole_back};
+ghost use Rattle.form_states.specs.NumberLaws.{text_back};
 ghost use Rattle.form_states.specs.Laws.{kept_again};
 
 use crate::input_state::InputState;
 use crate::limits::{Defaults, Limits};
-use crate::whole::{in_units, kept_if_number, whole_of};
+use crate::whole::{in_units, kept_if_number, whole, whole_of};
 use form_calendar::{
     print_date, print_month, print_time, print_week, read_date, read_month, read_time, read_week,
 };
@@ -46,7 +41,7 @@ impl InputState for DateRow {
 
     ghost idempotent = { λ _ t _. kept_again (number_of Kind.Date) t };
 
-    ghost reads_back = { whole_back date_number date_text date_text_back };
+    ghost reads_back = { text_back Kind.Date };
 }
 
 /// Months from January 1970.
@@ -72,7 +67,7 @@ impl InputState for MonthRow {
 
     ghost idempotent = { λ _ t _. kept_again (number_of Kind.Month) t };
 
-    ghost reads_back = { whole_back month_number month_text month_text_back };
+    ghost reads_back = { text_back Kind.Month };
 }
 
 /// Milliseconds from 1970-01-01 to the midnight of its Monday.
@@ -94,12 +89,15 @@ impl InputState for WeekRow {
 
     /// The default step base is the Monday before 1970-01-01, a Thursday.
     fn defaults() -> Defaults {
-        Defaults::from_base(-259_200_000)
+        Defaults {
+            base: whole(-259_200_000),
+            ..Defaults::none(false)
+        }
     }
 
     ghost idempotent = { λ _ t _. kept_again (number_of Kind.Week) t };
 
-    ghost reads_back = { whole_back week_number week_text week_text_back };
+    ghost reads_back = { text_back Kind.Week };
 }
 
 /// Milliseconds from midnight.
@@ -125,5 +123,5 @@ impl InputState for TimeRow {
 
     ghost idempotent = { λ _ t _. kept_again (number_of Kind.Time) t };
 
-    ghost reads_back = { whole_back time_number time_text time_text_back };
+    ghost reads_back = { text_back Kind.Time };
 }

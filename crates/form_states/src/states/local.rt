@@ -4,10 +4,9 @@
 #![tactic(auto, unfolding(form_types::specs::TypeTable::row_of))]
 
 ghost use Rattle.std.specs.Prelude.{◌≡◌, IfOk, string_bytes};
-ghost use Rattle.form_calendar.specs.LocalDateTime.{local_number, local_text};
-ghost use Rattle.form_calendar.proofs.Laws.{local_text_back};
+ghost use Rattle.form_types.specs.declared.kind.Kind.{Kind};
 ghost use Rattle.form_states.specs.Sanitised.{local_sanitised};
-ghost use Rattle.form_states.specs.NumberLaws.{whole_back};
+ghost use Rattle.form_states.specs.NumberLaws.{text_back};
 ghost use Rattle.form_states.specs.Laws.{local_again};
 
 use crate::input_state::InputState;
@@ -40,7 +39,7 @@ impl InputState for LocalRow {
 
     ghost idempotent = { λ _ t _. local_again t };
 
-    ghost reads_back = { whole_back local_number local_text local_text_back };
+    ghost reads_back = { text_back Kind.Local };
 }
 
 fn normalised(alloc: Global, text: &str) -> Result<String, AllocError>

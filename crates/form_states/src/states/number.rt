@@ -5,7 +5,7 @@
 
 ghost use Rattle.form_types.specs.declared.kind.Kind.{Kind};
 ghost use Rattle.form_states.specs.States.{number_of};
-ghost use Rattle.form_states.specs.NumberLaws.{decimal_back};
+ghost use Rattle.form_states.specs.NumberLaws.{text_back};
 ghost use Rattle.form_states.specs.Laws.{kept_again};
 
 use crate::input_state::InputState;
@@ -34,5 +34,5 @@ impl InputState for NumberRow {
 
     ghost idempotent = { λ _ t _. kept_again (number_of Kind.Number) t };
 
-    ghost reads_back = { decimal_back };
+    ghost reads_back = { text_back Kind.Number };
 }

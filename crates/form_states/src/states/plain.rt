@@ -4,105 +4,59 @@
 #![tactic(auto, unfolding(form_types::specs::TypeTable::row_of))]
 
 ghost use Rattle.std.proofs.Common.{refl};
+ghost use Rattle.form_states.specs.States.{IsTextState};
 
 use crate::text_state::TextState;
 use form_types::{
-    ButtonRow, CheckboxRow, FileRow, HiddenRow, ImageRow, RadioRow, ResetRow, SubmitRow,
+    ButtonRow, CheckboxRow, FileRow, HiddenRow, ImageRow, RadioRow, ResetRow, Row, SubmitRow,
 };
 use std::alloc::{AllocError, Global};
 
-impl TextState for HiddenRow {
+/// A state that keeps each text as it is.
+pub trait PlainState: Row {
+    ghost plain: { IsTextState Self.KIND (λ t. t) };
+}
+
+impl<S: PlainState> TextState for S {
     ghost made = { λ t. t };
 
     fn made_of(alloc: Global, text: &str) -> Result<String, AllocError> {
         String::from_str(alloc, text)
     }
 
-    ghost rules = { (λ _ _. refl, λ _. refl, λ _. refl, refl, refl, refl, refl) };
+    ghost rules = { S.plain };
 
     ghost again = { λ _. refl };
 }
 
-impl TextState for CheckboxRow {
-    ghost made = { λ t. t };
-
-    fn made_of(alloc: Global, text: &str) -> Result<String, AllocError> {
-        String::from_str(alloc, text)
-    }
-
-    ghost rules = { (λ _ _. refl, λ _. refl, λ _. refl, refl, refl, refl, refl) };
-
-    ghost again = { λ _. refl };
+impl PlainState for HiddenRow {
+    ghost plain = { (λ _ _. refl, λ _. refl, λ _. refl, refl, refl, refl, refl) };
 }
 
-impl TextState for RadioRow {
-    ghost made = { λ t. t };
-
-    fn made_of(alloc: Global, text: &str) -> Result<String, AllocError> {
-        String::from_str(alloc, text)
-    }
-
-    ghost rules = { (λ _ _. refl, λ _. refl, λ _. refl, refl, refl, refl, refl) };
-
-    ghost again = { λ _. refl };
+impl PlainState for CheckboxRow {
+    ghost plain = { (λ _ _. refl, λ _. refl, λ _. refl, refl, refl, refl, refl) };
 }
 
-impl TextState for FileRow {
-    ghost made = { λ t. t };
-
-    fn made_of(alloc: Global, text: &str) -> Result<String, AllocError> {
-        String::from_str(alloc, text)
-    }
-
-    ghost rules = { (λ _ _. refl, λ _. refl, λ _. refl, refl, refl, refl, refl) };
-
-    ghost again = { λ _. refl };
+impl PlainState for RadioRow {
+    ghost plain = { (λ _ _. refl, λ _. refl, λ _. refl, refl, refl, refl, refl) };
 }
 
-impl TextState for SubmitRow {
-    ghost made = { λ t. t };
-
-    fn made_of(alloc: Global, text: &str) -> Result<String, AllocError> {
-        String::from_str(alloc, text)
-    }
-
-    ghost rules = { (λ _ _. refl, λ _. refl, λ _. refl, refl, refl, refl, refl) };
-
-    ghost again = { λ _. refl };
+impl PlainState for FileRow {
+    ghost plain = { (λ _ _. refl, λ _. refl, λ _. refl, refl, refl, refl, refl) };
 }
 
-impl TextState for ImageRow {
-    ghost made = { λ t. t };
-
-    fn made_of(alloc: Global, text: &str) -> Result<String, AllocError> {
-        String::from_str(alloc, text)
-    }
-
-    ghost rules = { (λ _ _. refl, λ _. refl, λ _. refl, refl, refl, refl, refl) };
-
-    ghost again = { λ _. refl };
+impl PlainState for SubmitRow {
+    ghost plain = { (λ _ _. refl, λ _. refl, λ _. refl, refl, refl, refl, refl) };
 }
 
-impl TextState for ResetRow {
-    ghost made = { λ t. t };
-
-    fn made_of(alloc: Global, text: &str) -> Result<String, AllocError> {
-        String::from_str(alloc, text)
-    }
-
-    ghost rules = { (λ _ _. refl, λ _. refl, λ _. refl, refl, refl, refl, refl) };
-
-    ghost again = { λ _. refl };
+impl PlainState for ImageRow {
+    ghost plain = { (λ _ _. refl, λ _. refl, λ _. refl, refl, refl, refl, refl) };
 }
 
-impl TextState for ButtonRow {
-    ghost made = { λ t. t };
+impl PlainState for ResetRow {
+    ghost plain = { (λ _ _. refl, λ _. refl, λ _. refl, refl, refl, refl, refl) };
+}
 
-    fn made_of(alloc: Global, text: &str) -> Result<String, AllocError> {
-        String::from_str(alloc, text)
-    }
-
-    ghost rules = { (λ _ _. refl, λ _. refl, λ _. refl, refl, refl, refl, refl) };
-
-    ghost again = { λ _. refl };
+impl PlainState for ButtonRow {
+    ghost plain = { (λ _ _. refl, λ _. refl, λ _. refl, refl, refl, refl, refl) };
 }

@@ -28,7 +28,8 @@ pub text_reads_back : (kind : Kind) (made : List ℕ → List ℕ) → IsTextSta
 text_reads_back kind made rules n t h = absurd (none-some t (sym (rules.2 n) ∙ h))
 
 -- newlines and then whitespace at the ends: nothing is left to take away
-pub url_again : (t : List ℕ) → stripped (without_newlines (stripped (without_newlines t))) ≡ stripped (without_newlines t)
+pub url_again : (t : List ℕ)
+    → stripped (without_newlines (stripped (without_newlines t))) ≡ stripped (without_newlines t)
 url_again t =
     ap stripped (stripped_keeps_none (without_newlines t) (without_newlines_again t))
     ∙ stripped_again (without_newlines t)
@@ -42,7 +43,8 @@ kept_again read t = go (read t) refl
     empty (Some n) = refl
     empty None = refl
 
-    go : (o : Option ℤ) → read t ≡ o → kept_if_number (read (kept_if_number o t)) (kept_if_number o t) ≡ kept_if_number o t
+    go : (o : Option ℤ) → read t ≡ o
+        → kept_if_number (read (kept_if_number o t)) (kept_if_number o t) ≡ kept_if_number o t
     go (Some n) e = ap (λ o. kept_if_number o t) e
     go None e = empty (read [])
 
@@ -51,7 +53,8 @@ pub local_again : (t : List ℕ) → local_sanitised (local_sanitised t) ≡ loc
 unfolding local_number
 local_again t = go (local_number t) refl
   where
-    go : (o : Option ℤ) → local_number t ≡ o → local_sanitised (unwrap_or (option_and_then local_text o) []) ≡ unwrap_or (option_and_then local_text o) []
+    go : (o : Option ℤ) → local_number t ≡ o
+        → local_sanitised (unwrap_or (option_and_then local_text o) []) ≡ unwrap_or (option_and_then local_text o) []
     go None e = refl
     go (Some n) e =
         let s = local_laws.there t n (local_laws.found t n e) in
@@ -62,12 +65,15 @@ local_again t = go (local_number t) refl
 -- lower case stays lower case, and a simple colour in lower case is one
 lower_again : (t : List ℕ) → map to_ascii_lowercase (map to_ascii_lowercase t) ≡ map to_ascii_lowercase t
 lower_again [] = refl
-lower_again (x ∷ xs) = let e : to_ascii_lowercase (to_ascii_lowercase x) ≡ to_ascii_lowercase x = grind (arith, nat_tests) in cc (e, lower_again xs)
+lower_again (x ∷ xs) =
+    let e : to_ascii_lowercase (to_ascii_lowercase x) ≡ to_ascii_lowercase x = grind (arith, nat_tests) in
+    cc (e, lower_again xs)
 
 hex_lower : (c : ℕ) → is_ascii_hexdigit c ≡ true → is_ascii_hexdigit (to_ascii_lowercase c) ≡ true
 hex_lower c h = grind (arith, nat_tests)
 
-all_hex_lower : (t : List ℕ) → list_all is_ascii_hexdigit t ≡ true → list_all is_ascii_hexdigit (map to_ascii_lowercase t) ≡ true
+all_hex_lower : (t : List ℕ) → list_all is_ascii_hexdigit t ≡ true
+    → list_all is_ascii_hexdigit (map to_ascii_lowercase t) ≡ true
 all_hex_lower [] h = refl
 all_hex_lower (x ∷ xs) h =
     let parts = and_parts (is_ascii_hexdigit x) (list_all is_ascii_hexdigit xs) h in
@@ -85,6 +91,10 @@ color_lower (x ∷ xs) h =
 pub color_again : (t : List ℕ) → color_sanitised (color_sanitised t) ≡ color_sanitised t
 color_again t = go (is_simple_color t) refl
   where
-    go : (b : Bool) → is_simple_color t ≡ b → color_sanitised (cond b (map to_ascii_lowercase t) (codes "#000000")) ≡ cond b (map to_ascii_lowercase t) (codes "#000000")
+    lower : List ℕ
+    lower = map to_ascii_lowercase t
+
+    go : (b : Bool) → is_simple_color t ≡ b
+        → color_sanitised (cond b lower (codes "#000000")) ≡ cond b lower (codes "#000000")
     go true e = rw (color_lower t e) (lower_again t)
     go false e = refl

@@ -25,7 +25,8 @@ use Rattle.form_states.specs.States.{HasNumber, number_of, IsTextFor, text_for}
 whole_pos : (k a : ℕ) → k ≡ a * 1000000000000 → (k % 1000000000000 ≡ 0) × (k / 1000000000000 ≡ a)
 whole_pos k a h = (omega arith, omega arith)
 
-whole_neg : (k a : ℕ) → suc k ≡ suc a * 1000000000000 → (1000000000000 - 1 - k % 1000000000000 ≡ 0) × (k / 1000000000000 ≡ a)
+whole_neg : (k a : ℕ) → suc k ≡ suc a * 1000000000000
+    → (1000000000000 - 1 - k % 1000000000000 ≡ 0) × (k / 1000000000000 ≡ a)
 whole_neg k a h = (omega arith, omega arith)
 
 whole_if : (r : ℕ) (d m : ℤ) → r ≡ 0 → d ≡ m → cond (r == 0) (Some d) None ≡ Some m

@@ -1,5 +1,5 @@
 -- The laws of sanitising in the state range: twice gives what once gives, and a decimal.
-use Rattle.std.proofs.Common.{◌≡◌, ℕ, ◌/◌, Bool, true, false, cond, List, Option, Some, None, IfSome, refl, ap, sym, subst, ◌∙◌, arith, ℤ, pos, negsuc, ◌+ℤ◌, ◌-ℤ◌, ◌≤ℤ◌, int_lt}
+use Rattle.std.proofs.Common.{◌≡◌, ℕ, ◌/◌, Bool, true, false, cond, List, Option, Some, None, IfSome, refl, ap, ◌∙◌, arith, ℤ, pos, negsuc, ◌+ℤ◌, ◌-ℤ◌, ◌≤ℤ◌, int_lt}
 use Rattle.std.specs.Prelude.{unwrap_or}
 use Rattle.std.proofs.lemmas.Int.{ints}
 use Rattle.std.specs.Ordering.{int_eq}
@@ -45,22 +45,31 @@ clamped_within low (Some h) n w = go (int_lt h (raised_to low n)) refl
     go false e = record { from = raised_from low n; to = lt_false h (raised_to low n) e }
 
 -- a number within the limits that is aligned, or that has no candidate, stays
-stepped_again : (low : ℤ) (top : Option ℤ) (base : ℤ) (step : Option ℤ) (m : ℤ) → Within low top m → Within low top (stepped low top base step m) × (stepped low top base step (stepped low top base step m) ≡ stepped low top base step m)
+abbrev StepsOnce : ℤ → Option ℤ → ℤ → Option ℤ → ℤ → Type 0
+StepsOnce low top base step m = Within low top m × (stepped low top base step m ≡ m)
+
+stepped_again : (low : ℤ) (top : Option ℤ) (base : ℤ) (step : Option ℤ) (m : ℤ) → Within low top m
+    → StepsOnce low top base step (stepped low top base step m)
 stepped_again low top base None m w = (w, refl)
 stepped_again low top base (Some s) m w = go (is_aligned m base s) refl
   where
-    moved : (o : Option ℤ) → nearest_of m base s low top ≡ o → is_aligned m base s ≡ false → Within low top (unwrap_or o m) × (stepped low top base (Some s) (unwrap_or o m) ≡ unwrap_or o m)
+    moved : (o : Option ℤ) → nearest_of m base s low top ≡ o → is_aligned m base s ≡ false
+        → StepsOnce low top base (Some s) (unwrap_or o m)
     moved (Some c) e f =
-        let t = nearest_tested m base s low top c e in
-        (record { from = t.low_enough; to = t.high_enough }, ap (λ b. cond b c (unwrap_or (nearest_of c base s low top) c)) t.aligned)
+        let t = nearest_tested m base s low top c e in (
+          record { from = t.low_enough; to = t.high_enough },
+          ap (λ b. cond b c (unwrap_or (nearest_of c base s low top) c)) t.aligned,
+        )
     moved None e f = (w, ap (λ b. cond b m (unwrap_or (nearest_of m base s low top) m)) f ∙ ap (λ o. unwrap_or o m) e)
 
-    go : (b : Bool) → is_aligned m base s ≡ b → Within low top (cond b m (unwrap_or (nearest_of m base s low top) m)) × (stepped low top base (Some s) (cond b m (unwrap_or (nearest_of m base s low top) m)) ≡ cond b m (unwrap_or (nearest_of m base s low top) m))
+    go : (b : Bool) → is_aligned m base s ≡ b
+        → StepsOnce low top base (Some s) (cond b m (unwrap_or (nearest_of m base s low top) m))
     go true e = (w, ap (λ b. cond b m (unwrap_or (nearest_of m base s low top) m)) e)
     go false e = moved (nearest_of m base s low top) refl e
 
 -- correcting is idempotent, for every step
-corrected_again : (low : ℤ) (top : Option ℤ) (base : ℤ) (step : Option ℤ) (n : ℤ) → IfSome top (λ h. low ≤ℤ h) → corrected low top base step (corrected low top base step n) ≡ corrected low top base step n
+corrected_again : (low : ℤ) (top : Option ℤ) (base : ℤ) (step : Option ℤ) (n : ℤ) → IfSome top (λ h. low ≤ℤ h)
+    → corrected low top base step (corrected low top base step n) ≡ corrected low top base step n
 corrected_again low top base step n w =
     let s = stepped_again low top base step (clamped low top n) (clamped_within low top n w) in
     ap (stepped low top base step) (clamped_fine low top (corrected low top base step n) s.0) ∙ s.1
@@ -86,11 +95,16 @@ fits_up_to : (top : Option ℤ) (n : ℤ) → IfSome top IsDecimal → IsDecimal
 fits_up_to None n h k = k
 fits_up_to (Some t) n h k = fits_cond (int_lt t n) t n h k
 
-fits_stepped : (low : ℤ) (top : Option ℤ) (base : ℤ) (step : Option ℤ) (m : ℤ) → IsDecimal m → IsDecimal (stepped low top base step m)
+fits_stepped : (low : ℤ) (top : Option ℤ) (base : ℤ) (step : Option ℤ) (m : ℤ) → IsDecimal m
+    → IsDecimal (stepped low top base step m)
 fits_stepped low top base None m h = h
-fits_stepped low top base (Some s) m h = fits_cond (is_aligned m base s) m (unwrap_or (nearest_of m base s low top) m) h (go (nearest_of m base s low top) refl)
+fits_stepped low top base (Some s) m h =
+    fits_cond (is_aligned m base s) m (unwrap_or nearest m) h (go nearest refl)
   where
-    go : (o : Option ℤ) → nearest_of m base s low top ≡ o → IsDecimal (unwrap_or o m)
+    nearest : Option ℤ
+    nearest = nearest_of m base s low top
+
+    go : (o : Option ℤ) → nearest ≡ o → IsDecimal (unwrap_or o m)
     go (Some c) e = (nearest_tested m base s low top c e).fits
     go None e = h
 
@@ -120,7 +134,8 @@ fits_half low high w h k = go (high -ℤ low) refl
     go (pos a) e = between low (low +ℤ pos (a / 2)) high (omega (arith, ints)) (omega (arith, ints)) h k
     go (negsuc a) e = absurd (omega (arith, ints))
 
-fits_middle : (low : ℤ) (top : Option ℤ) → IfSome top (λ h. low ≤ℤ h) → IsDecimal low → IfSome top IsDecimal → IsDecimal (middle low top)
+fits_middle : (low : ℤ) (top : Option ℤ) → IfSome top (λ h. low ≤ℤ h) → IsDecimal low → IfSome top IsDecimal
+    → IsDecimal (middle low top)
 fits_middle low None w h k = h
 fits_middle low (Some high) w h k = fits_half low high w h k
 
@@ -143,7 +158,8 @@ default_fits l e = fits_middle (low_of l) (top_in l) (top_above (low_of l) (high
 -- ---- idempotence on texts
 
 -- the printed text of a corrected number stays
-printed_stays : (l : Limits) (n : ℤ) → IsDecimal (corrected_in l n) → range_sanitised l (printed (corrected_in l n)) ≡ printed (corrected_in l n)
+printed_stays : (l : Limits) (n : ℤ) → IsDecimal (corrected_in l n)
+    → range_sanitised l (printed (corrected_in l n)) ≡ printed (corrected_in l n)
 unfolding range_sanitised
 printed_stays l n h =
     let c = corrected_in l n in
@@ -151,7 +167,8 @@ printed_stays l n h =
     ∙ ap (λ x. cond (int_eq c x) (printed c) (printed x)) (corrected_in_again l n)
     ∙ ap (λ b. cond b (printed c) (printed c)) ((Decides-int_eq c c).1 refl)
 
-pub range_again : (l : Limits) (t : List ℕ) → HasDecimals l → range_sanitised l (range_sanitised l t) ≡ range_sanitised l t
+pub range_again : (l : Limits) (t : List ℕ) → HasDecimals l
+    → range_sanitised l (range_sanitised l t) ≡ range_sanitised l t
 unfolding range_sanitised
 range_again l t d = go (valid_number t) refl
   where
@@ -162,6 +179,7 @@ range_again l t d = go (valid_number t) refl
     go None f = printed_stays l (default_in l) (corrected_fits l (default_in l) e (default_fits l e))
     go (Some n) f = inner (int_eq n (corrected_in l n)) refl
       where
-        inner : (x : Bool) → int_eq n (corrected_in l n) ≡ x → range_sanitised l (cond x t (printed (corrected_in l n))) ≡ cond x t (printed (corrected_in l n))
+        inner : (x : Bool) → int_eq n (corrected_in l n) ≡ x
+            → range_sanitised l (cond x t (printed (corrected_in l n))) ≡ cond x t (printed (corrected_in l n))
         inner true g = ap (corrected_text l t) f ∙ ap (λ x. cond x t (printed (corrected_in l n))) g
         inner false g = printed_stays l n (corrected_fits l n e (valid_bound t n f))

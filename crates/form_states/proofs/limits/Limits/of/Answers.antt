@@ -1,4 +1,3 @@
-use Rattle.std.proofs.Common.{◌≡◌}
 use Rattle.form_states.proofs.LimitsLaws.{range_ends}
 use Rattle.form_states.proofs.limits.Limits.of.Goals as goal
 

@@ -2,7 +2,7 @@
 use Rattle.std.proofs.Common.{◌≡◌, inl, inr, ℕ, zero, suc, ◌+◌, ◌^◌, ◌<◌, ◌≤◌, ◌++◌, Bool, true, false, ◌&&◌, cond, int_lt, List, ◌∷◌, Some, None, refl, ap, sym, subst, ◌∙◌, arith, codes, eqb, leb, ℤ, pos, negsuc, ◌+ℤ◌, ◌-ℤ◌, ◌*ℤ◌, ◌<ℤ◌, ◌≤ℤ◌, unsigned_abs}
 use Rattle.std.proofs.lemmas.Bool.{and_parts, cases_lt, eqb-true, eq-eqb, ne_eqb, leb-true, le-leb}
 use Rattle.std.proofs.lemmas.Int.{ints}
-use Rattle.std.proofs.lemmas.Option.{cond_some, none-some}
+use Rattle.std.proofs.lemmas.Option.{cond_some}
 use Rattle.jiff_core.specs.declared.civil.date.Date.{Date}
 use Rattle.jiff_core.specs.Date.{epoch_day}
 use Rattle.jiff_core.specs.Calendar.{days_from_civil, days_in_month}
@@ -15,7 +15,7 @@ use Rattle.form_calendar.specs.Date.{IsDateText, IsValidDate, date_number, last_
 use Rattle.form_calendar.specs.Shortest.{IsShortest}
 use Rattle.form_calendar.proofs.DigitLemmas.{writes_below, padded_writes, padded_only, pair_writes, pair_only}
 use Rattle.form_calendar.proofs.ReadingLemmas.{some_if, abs_back, none_if}
-use Rattle.form_calendar.proofs.PrintLemmas.{only_shortest}
+use Rattle.form_calendar.proofs.StringLaws.{StringLaws, one_text}
 use Rattle.form_calendar.proofs.DateLemmas.{date_found, date_again}
 
 lt_true : (a b : ℤ) → int_lt a b ≡ true → a <ℤ b
@@ -223,20 +223,9 @@ date_text_only text n v =
     let zero : eqb (clock_of n) 0 ≡ true = eq-eqb (clock_of n) 0 s.1 in
     rw (zero, s.0, day_text_date v.date v.from_year_one) (ap Some (sym (civil_only text _ _ _ v.spelled)))
 
--- the text of a number is its shortest valid text
-pub date_text_shortest : (n : ℤ) (text : List ℕ) → date_text n ≡ Some text → IsShortest IsValidDate text n
-date_text_shortest = only_shortest IsValidDate date_text date_text_valid date_text_only
-
--- it reads back as the number
-pub date_text_back : (n : ℤ) (text : List ℕ) → date_text n ≡ Some text → date_number text ≡ Some n
-date_text_back n text h = date_again text n (date_text_valid n text h)
-
--- it is there wherever some valid text has the number
-pub date_text_none : (n : ℤ) → date_text n ≡ None → (text : List ℕ) → IsValidDate text n → ⊥
-date_text_none n h text v = none-some text (sym h ∙ date_text_only text n v)
-
-pub date_number_text : (text : List ℕ) (n : ℤ) → date_number text ≡ Some n → (short : List ℕ) × (date_text n ≡ Some short)
-date_number_text text n h = (text, date_text_only text n (date_found text n h))
+-- the laws of date strings
+pub date_laws : StringLaws IsValidDate (IsShortest IsValidDate) date_number date_text
+date_laws = one_text IsValidDate date_number date_text date_found date_again date_text_valid date_text_only
 
 -- a day number that no date from the year 1 on has has no text
 pub day_text_none : (day : ℤ) → ((date : Date) → pos 1 ≤ℤ date.year → epoch_day date ≡ day → ⊥) → None ≡ day_text day

@@ -1,6 +1,7 @@
 mod DigitLemmas
 mod ReadingLemmas
 pub mod PrintLemmas
+mod StringLaws
 mod MonthLemmas
 mod DateLemmas
 mod DateTexts

@@ -1,6 +1,5 @@
 -- The text of a local date and time is valid, has `T`, and no valid text of the number is shorter.
 use Rattle.std.proofs.Common.{◌≡◌, inl, inr, ℕ, ◌≤◌, ◌++◌, List, ◌∷◌, length, Some, None, option_map, ap, sym, subst, ◌∙◌, arith, length-append, ℤ, pos, ◌*ℤ◌, unsigned_abs, ◌^◌}
-use Rattle.std.proofs.lemmas.Option.{none-some}
 use Rattle.jiff_core.specs.Date.{epoch_day}
 use Rattle.jiff_core.proofs.SignedLemmas.{signed_arith, one_part}
 use Rattle.jiff_core.proofs.DateLemmas.{epoch_day_range}
@@ -9,6 +8,7 @@ use Rattle.form_calendar.specs.Time.{IsValidTime, clock_text}
 use Rattle.form_calendar.specs.LocalDateTime.{IsLocalText, IsValidLocal, local_number, local_text}
 use Rattle.form_calendar.specs.Shortest.{IsShortestLocal}
 use Rattle.form_calendar.proofs.ReadingLemmas.{some_map}
+use Rattle.form_calendar.proofs.StringLaws.{StringLaws}
 use Rattle.form_calendar.proofs.DateTexts.{day_text_valid, day_text_date, day_and_clock, day_and_clock_once}
 use Rattle.form_calendar.proofs.TimeTexts.{clock_text_valid, clock_text_least, time_below}
 use Rattle.form_calendar.proofs.LocalLemmas.{date_long, local_found, local_again}
@@ -55,10 +55,6 @@ local_text_shortest n text h =
       ]);
     }
 
--- it reads back as the number
-pub local_text_back : (n : ℤ) (text : List ℕ) → local_text n ≡ Some text → local_number text ≡ Some n
-local_text_back n text h = local_again text n (inl (local_text_shortest n text h).valid)
-
 some_of : (separator : ℕ) (text : List ℕ) (n : ℤ) → IsLocalText separator text n → (short : List ℕ) × (local_text n ≡ Some short)
 unfolding local_text
 some_of separator text n v =
@@ -71,12 +67,6 @@ pub local_text_some : (text : List ℕ) (n : ℤ) → IsValidLocal text n → (s
 local_text_some text n (inl v) = some_of 84 text n v
 local_text_some text n (inr v) = some_of 32 text n v
 
-pub local_text_none : (n : ℤ) → local_text n ≡ None → (text : List ℕ) → IsValidLocal text n → ⊥
-local_text_none n h text v = let s = local_text_some text n v in none-some s.0 (sym h ∙ s.1)
-
-pub local_number_text : (text : List ℕ) (n : ℤ) → local_number text ≡ Some n → (short : List ℕ) × (local_text n ≡ Some short)
-local_number_text text n h = local_text_some text n (local_found text n h)
-
 bound_of : (separator : ℕ) (text : List ℕ) (n : ℤ) → IsLocalText separator text n → unsigned_abs n ≤ 10 ^ 15
 bound_of separator text n v =
     let b = time_below v.time_text v.time_number v.time_is in
@@ -86,3 +76,13 @@ bound_of separator text n v =
 pub local_bound : (text : List ℕ) (n : ℤ) → IsValidLocal text n → unsigned_abs n ≤ 10 ^ 15
 local_bound text n (inl v) = bound_of 84 text n v
 local_bound text n (inr v) = bound_of 32 text n v
+
+-- the laws of local date and time strings
+pub local_laws : StringLaws IsValidLocal IsShortestLocal local_number local_text
+local_laws = record {
+  found = local_found;
+  again = local_again;
+  best = local_text_shortest;
+  back = λ n text h. local_again text n (inl (local_text_shortest n text h).valid);
+  there = local_text_some;
+}

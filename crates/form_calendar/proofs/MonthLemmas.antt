@@ -1,15 +1,15 @@
 -- A month string is read from the left exactly as it is spelled.
 use Rattle.std.proofs.Common.{◌≡◌, ℕ, ◌+◌, ◌-◌, ◌*◌, ◌/◌, ◌%◌, ◌^◌, ◌<◌, ◌≤◌, ◌&&◌, List, Some, None, refl, ap, sym, subst, ◌∙◌, arith, codes, leb, ltb, ℤ, pos, negsuc, neg_ℤ, ◌+ℤ◌, ◌<ℤ◌, unsigned_abs}
 use Rattle.std.proofs.lemmas.Bool.{and_parts, leb-true, le-leb, ltb-true, lt-ltb}
-use Rattle.std.proofs.lemmas.Option.{option_and_then_some, cond_some, none-some}
+use Rattle.std.proofs.lemmas.Option.{option_and_then_some, cond_some}
 use Rattle.std.specs.Int.{IsInRange}
 use Rattle.form_calendar.specs.Reading.{whole_pair}
 use Rattle.form_calendar.specs.Month.{IsMonthText, IsValidMonth, months_from_1970, month_number_of, month_number, year_month_text, months_text, month_text}
 use Rattle.form_calendar.specs.Shortest.{IsShortest}
 use Rattle.jiff_core.proofs.SignedLemmas.{signed_arith, one_part}
 use Rattle.form_calendar.proofs.DigitLemmas.{writes_below, pair_writes, pair_only}
-use Rattle.form_calendar.proofs.PrintLemmas.{only_shortest}
 use Rattle.form_calendar.proofs.ReadingLemmas.{none_if, whole_pair_found, whole_pair_again}
+use Rattle.form_calendar.proofs.StringLaws.{StringLaws, one_text}
 
 pub month_number_of_some : (y m : ℕ) (n : ℤ) → month_number_of y m ≡ Some n → (1 ≤ y) × IsInRange 1 12 m × (n ≡ months_from_1970 y m)
 unfolding month_number_of
@@ -94,24 +94,13 @@ months_high n h =
 pub month_text_at : (n : ℤ) (k : ℕ) → n +ℤ pos 23640 ≡ pos k → 12 ≤ k → k < 120000 → Some (year_month_text (k / 12) (k % 12 + 1)) ≡ month_text n
 month_text_at n k e low high = sym (ap months_text e ∙ months_is k low high)
 
--- the text of a number is its shortest valid text
-pub month_text_shortest : (n : ℤ) (text : List ℕ) → month_text n ≡ Some text → IsShortest IsValidMonth text n
-month_text_shortest = only_shortest IsValidMonth month_text month_text_valid month_text_only
-
--- it reads back as the number
-pub month_text_back : (n : ℤ) (text : List ℕ) → month_text n ≡ Some text → month_number text ≡ Some n
-month_text_back n text h = month_again text n (month_text_valid n text h)
-
--- it is there wherever some valid text has the number
-pub month_text_none : (n : ℤ) → month_text n ≡ None → (text : List ℕ) → IsValidMonth text n → ⊥
-month_text_none n h text v = none-some text (sym h ∙ month_text_only text n v)
-
-pub month_number_text : (text : List ℕ) (n : ℤ) → month_number text ≡ Some n → (short : List ℕ) × (month_text n ≡ Some short)
-month_number_text text n h = (text, month_text_only text n (month_found text n h))
-
 -- the number of a valid text is small
 pub month_bound : (text : List ℕ) (n : ℤ) → IsValidMonth text n → unsigned_abs n ≤ 10 ^ 15
 month_bound text n v =
     let m = v.month_in in
     let below : v.year < 10 ^ 4 = writes_below 4 v.spelled.first_text v.year v.spelled.first_is in
     omega (arith, signed_arith, one_part n, v.number)
+
+-- the laws of month strings
+pub month_laws : StringLaws IsValidMonth (IsShortest IsValidMonth) month_number month_text
+month_laws = one_text IsValidMonth month_number month_text month_found month_again month_text_valid month_text_only

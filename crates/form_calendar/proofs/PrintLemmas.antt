@@ -1,8 +1,6 @@
 -- What the holes of a format write.
 use Rattle.std.proofs.Common.{◌≡◌, ℕ, ◌^◌, ◌-◌, ◌++◌, false, List, [], length, replicate, ℤ, Option, Some, None, option_map, Result, Ok, Err, IfOk, OnOk, IfSome, IfNone, String, string_bytes, ap, sym, subst, ◌∙◌, arith, append-nil, append_assoc}
 use Rattle.std.specs.Fmt.{decimal, padded_integral, format_spec, char_count}
-use Rattle.std.proofs.lemmas.Option.{same_Some}
-use Rattle.form_calendar.specs.Shortest.{IsShortest}
 use Rattle.form_calendar.specs.Digits.{padded, pair_text}
 
 -- `{:02}` and its kin write a number with zeros in front up to the width
@@ -11,25 +9,6 @@ unfolding padded padded_integral char_count
 hole_padded width n =
     let e : width - length (decimal n) - 0 - 0 ≡ width - length (decimal n) = omega arith in
     ap (λ x. replicate (width - length (decimal n) - 0 - 0) 48 ++ x) (append-nil (decimal n)) ∙ ap (λ k. replicate k 48 ++ decimal n) e
-
--- what holds of the text of a number holds of the printed text
-pub printed_has : {A E : Type 0} (r : Result (Option (String A)) E) (o : Option (List ℕ)) (P : List ℕ → Type 0) → IfOk r (λ p. option_map string_bytes p ≡ o) → ((text : List ℕ) → o ≡ Some text → P text) → IfOk r (λ p. IfSome p (λ s. P (string_bytes s)))
-printed_has (Err e) o P h f = tt
-printed_has (Ok None) o P h f = tt
-printed_has (Ok (Some s)) o P h f = f (string_bytes s) (sym h)
-
--- and what holds where a number has no text holds where nothing is printed
-pub printed_none : {A E : Type 0} (r : Result (Option (String A)) E) (o : Option (List ℕ)) (Q : Type 0) → IfOk r (λ p. option_map string_bytes p ≡ o) → (o ≡ None → Q) → IfOk r (λ p. IfNone p Q)
-printed_none (Err e) o Q h f = tt
-printed_none (Ok None) o Q h f = f (sym h)
-printed_none (Ok (Some s)) o Q h f = tt
-
--- where a number has one valid text, that is the shortest
-pub only_shortest : (IsValid : List ℕ → ℤ → Type 0) (text_of : ℤ → Option (List ℕ)) → ((n : ℤ) (text : List ℕ) → text_of n ≡ Some text → IsValid text n) → ((text : List ℕ) (n : ℤ) → IsValid text n → text_of n ≡ Some text) → (n : ℤ) (text : List ℕ) → text_of n ≡ Some text → IsShortest IsValid text n
-only_shortest IsValid text_of valid only n text e = record {
-  valid = valid n text e;
-  shortest = λ other v. let same = same_Some text other (sym e ∙ only other n v) in omega (arith, ap length same);
-}
 
 -- what stands behind two numbers stands behind the second
 pub pair_and_more : (count : ℕ) (separator rest : List ℕ) (a b : ℕ) → pair_text count separator a b ++ rest ≡ padded count a ++ (separator ++ (padded 2 b ++ rest))

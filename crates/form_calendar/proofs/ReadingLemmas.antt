@@ -124,8 +124,3 @@ unfolding whole_pair
 whole_pair_again separator text a b again t =
     let e : pair_at 4 separator text ≡ Some ((a, b), []) = ap (pair_at 4 separator) (sym (append-nil text)) ∙ pair_at_again 4 text [] a b separator again t in
     rw e refl
-
--- what holds of each value that there is holds of the value
-pub if_some : {A : Type 0} (o : Option A) (P : A → Type 0) → ((x : A) → o ≡ Some x → P x) → IfSome o P
-if_some None P h = tt
-if_some (Some x) P h = h x refl

@@ -7,6 +7,7 @@ use Rattle.form_calendar.specs.Digits.{padded, pair_text}
 use Rattle.form_calendar.specs.Time.{IsSpelledFraction, IsFraction, IsSeconds, IsMinuteText, IsValidTime, clock_number, time_number, shortest_fraction, shortest_seconds, clock_text, time_text}
 use Rattle.form_calendar.specs.Shortest.{IsShortest}
 use Rattle.form_calendar.proofs.DigitLemmas.{writes_below, padded_writes, pair_writes}
+use Rattle.form_calendar.proofs.StringLaws.{StringLaws}
 use Rattle.form_calendar.proofs.TimeLemmas.{time_found, time_again}
 
 -- the shortest seconds that are not left out
@@ -195,22 +196,22 @@ time_text_shortest (pos k) text h =
     }
 time_text_shortest (negsuc k) text h = absurd (none-some text h)
 
--- it reads back as the number
-pub time_text_back : (n : ℤ) (text : List ℕ) → time_text n ≡ Some text → time_number text ≡ Some n
-time_text_back n text h = time_again text n (time_text_shortest n text h).valid
-
 -- it is there wherever some valid text has the number
 pub time_text_some : (text : List ℕ) (n : ℤ) → IsValidTime text n → (short : List ℕ) × (time_text n ≡ Some short)
 time_text_some text n v =
     let b = time_below text n v in
     (clock_text b.0, ap time_text b.2 ∙ time_text_is b.0 b.1)
 
-pub time_text_none : (n : ℤ) → time_text n ≡ None → (text : List ℕ) → IsValidTime text n → ⊥
-time_text_none n h text v = let s = time_text_some text n v in none-some s.0 (sym h ∙ s.1)
-
-pub time_number_text : (text : List ℕ) (n : ℤ) → time_number text ≡ Some n → (short : List ℕ) × (time_text n ≡ Some short)
-time_number_text text n h = time_text_some text n (time_found text n h)
-
 -- the number of a valid text is small
 pub time_bound : (text : List ℕ) (n : ℤ) → IsValidTime text n → unsigned_abs n ≤ 10 ^ 15
 time_bound text n v = let b = time_below text n v in subst (λ z. unsigned_abs z ≤ 10 ^ 15) (sym b.2) (omega (arith, b.1))
+
+-- the laws of time strings
+pub time_laws : StringLaws IsValidTime (IsShortest IsValidTime) time_number time_text
+time_laws = record {
+  found = time_found;
+  again = time_again;
+  best = time_text_shortest;
+  back = λ n text h. time_again text n (time_text_shortest n text h).valid;
+  there = time_text_some;
+}

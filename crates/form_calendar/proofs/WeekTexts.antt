@@ -1,7 +1,7 @@
 -- A week has one text, which is found from the day number of its Monday.
 use Rattle.std.proofs.Common.{◌≡◌, ℕ, ◌+◌, ◌-◌, ◌*◌, ◌/◌, ◌%◌, ◌^◌, ◌<◌, ◌≤◌, true, ◌&&◌, List, Some, None, refl, ap, sym, subst, ◌∙◌, arith, codes, eqb, leb, ℤ, pos, neg_ℤ, ◌+ℤ◌, ◌-ℤ◌, ◌<ℤ◌, ◌≤ℤ◌, unsigned_abs}
 use Rattle.std.proofs.lemmas.Bool.{and_parts, eqb-true, eq-eqb, leb-true, le-leb}
-use Rattle.std.proofs.lemmas.Option.{cond_some, none-some}
+use Rattle.std.proofs.lemmas.Option.{cond_some}
 use Rattle.std.specs.Int.{IsInRange}
 use Rattle.jiff_core.specs.Calendar.{iso_year_start, days_from_civil, weekday_number, IsBetween}
 use Rattle.jiff_core.specs.IsoWeek.{days_from_iso}
@@ -17,7 +17,7 @@ use Rattle.form_calendar.specs.Week.{IsWeekText, IsValidWeek, weeks_of, monday_o
 use Rattle.form_calendar.specs.Shortest.{IsShortest}
 use Rattle.form_calendar.proofs.DigitLemmas.{writes_below, pair_writes, pair_only}
 use Rattle.form_calendar.proofs.ReadingLemmas.{some_if, none_if, abs_back}
-use Rattle.form_calendar.proofs.PrintLemmas.{only_shortest}
+use Rattle.form_calendar.proofs.StringLaws.{StringLaws, one_text}
 use Rattle.form_calendar.proofs.DateTexts.{last_begun_found, last_begun_is, abs_sub, day_and_clock, day_and_clock_once}
 use Rattle.form_calendar.proofs.WeekLemmas.{weeks_same, weeks_bound, monday_before, week_found, week_again}
 
@@ -90,20 +90,9 @@ week_text_only text n v =
     let below : v.year < 10 ^ 4 = writes_below 4 v.spelled.first_text v.year v.spelled.first_is in
     rw (midnight, s.0, monday_text_is v.year v.week v.from_year_one (omega arith) v.week_in) (ap Some (sym (pair_only 4 (codes "-W") text v.year v.week (omega arith) (omega arith) v.spelled)))
 
--- the text of a number is its shortest valid text
-pub week_text_shortest : (n : ℤ) (text : List ℕ) → week_text n ≡ Some text → IsShortest IsValidWeek text n
-week_text_shortest = only_shortest IsValidWeek week_text week_text_valid week_text_only
-
--- it reads back as the number
-pub week_text_back : (n : ℤ) (text : List ℕ) → week_text n ≡ Some text → week_number text ≡ Some n
-week_text_back n text h = week_again text n (week_text_valid n text h)
-
--- it is there wherever some valid text has the number
-pub week_text_none : (n : ℤ) → week_text n ≡ None → (text : List ℕ) → IsValidWeek text n → ⊥
-week_text_none n h text v = none-some text (sym h ∙ week_text_only text n v)
-
-pub week_number_text : (text : List ℕ) (n : ℤ) → week_number text ≡ Some n → (short : List ℕ) × (week_text n ≡ Some short)
-week_number_text text n h = (text, week_text_only text n (week_found text n h))
+-- the laws of week strings
+pub week_laws : StringLaws IsValidWeek (IsShortest IsValidWeek) week_number week_text
+week_laws = one_text IsValidWeek week_number week_text week_found week_again week_text_valid week_text_only
 
 -- a day number that no Monday of a week has has no text
 pub monday_text_none : (day : ℤ) → ((y w : ℕ) → 1 ≤ y → y ≤ 9999 → IsInRange 1 (weeks_of (pos y)) w → monday_of (pos y) w ≡ day → ⊥) → None ≡ monday_text day

@@ -88,6 +88,16 @@ pub fn time_in(text: &[u8]) -> Option<u32>
     Some((hour as u32 * 60 + minute as u32) * 60_000 + seconds)
 }
 
+// The same as a number of milliseconds.
+fn milliseconds_in(text: &[u8]) -> Option<i64>
+    ensures { result ≡ time_number text.now }
+{
+    let Some(milliseconds) = time_in(text) else {
+        return None;
+    };
+    Some(milliseconds as i64)
+}
+
 // Appends the shortest fraction of a second.
 #[tactic(auto, using(crate::proofs::PrintLemmas::hole_padded), unfolding(crate::specs::Time::shortest_fraction))]
 fn push_fraction(out: &mut String, millisecond: u32) -> Result<(), AllocError>
@@ -172,10 +182,7 @@ pub fn read_time(text: &str) -> Option<i64>
     ensures value { result ≡ time_number text.now }
     ensures bound { IfSome result (λ n. unsigned_abs n ≤ 10 ^ 15) }
 {
-    let Some(milliseconds) = time_in(text.as_bytes()) else {
-        return None;
-    };
-    Some(milliseconds as i64)
+    milliseconds_in(text.as_bytes())
 }
 
 /// The shortest valid time string of a number of milliseconds from midnight; None where it is below

@@ -8,4 +8,6 @@ is_quote b = b == quote
 
 -- a quoted part, and what stands behind its quote
 abbrev pub quoted : List ℕ → Option (List ℕ × List ℕ)
-quoted text = if nat_lt (position_or_len is_quote text) (length text) then Some (before_first is_quote text, after_first is_quote text) else None
+quoted text =
+    if nat_lt (position_or_len is_quote text) (length text)
+    then Some (before_first is_quote text, after_first is_quote text) else None

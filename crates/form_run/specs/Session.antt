@@ -67,7 +67,8 @@ flag_words missing = if missing then codes "valueMissing" else codes "-"
 -- the input's view, and then more
 abbrev pub view_then : List ℕ → Bool → List ℕ → List ℕ
 view_then value missing more =
-    codes "@2 value=\"" ++ (value ++ (codes "\" checked=no candidate=yes flags=" ++ line_then (flag_words missing) more))
+    codes "@2 value=\""
+    ++ (value ++ (codes "\" checked=no candidate=yes flags=" ++ line_then (flag_words missing) more))
 
 -- ---- the command `set`
 
@@ -109,7 +110,8 @@ enter_reply session =
 abbrev pub reply_to : Session → Option Command → List ℕ × Session
 reply_to session None = (refused_line, session)
 reply_to session (Some Enter) = (enter_reply session, session)
-reply_to session (Some (Set text)) = (set_reply session.tree.nodes text, record session { tree = with_value session.tree text })
+reply_to session (Some (Set text)) =
+    (set_reply session.tree.nodes text, record session { tree = with_value session.tree text })
 
 -- the reply to a line, and the session after it
 unfoldable pub reply : Session → List ℕ → List ℕ × Session

@@ -86,7 +86,8 @@ IsWritingEnd Memory = true
 IsWritingEnd status = false
 
 -- the input was read to its end, and its transcript was written
-pub record IsWhole (left written now : Option (List ℕ)) (base : Option Parts) (status : Status) (input : List ℕ) : Type 0 where
+pub record IsWhole (left written now : Option (List ℕ)) (base : Option Parts) (status : Status) (input : List ℕ)
+    : Type 0 where
   pub at_end : IsAtEnd left
   pub end : status ≡ expected_end input
   pub text : now ≡ append_known written (expected_text base input)

@@ -46,7 +46,8 @@ fn read_behind<S: Source>(source: &mut S, text: &mut Vec<u8>, done: usize) -> Go
     ensures len { vec_len text.new ≡ vec_len text.old }
     ensures within { GotWithin result (vec_len text.new - done) }
     ensures front { take done text.new.items ≡ take done text.old.items }
-    ensures bytes { S.held source.old ≡ prepend_known (read_bytes result (drop done text.new.items)) (S.held source.new) }
+    ensures bytes { S.held source.old
+        ≡ prepend_known (read_bytes result (drop done text.new.items)) (S.held source.new) }
     ensures end { result ≡ Got.End → IsAtEnd (S.held source.new) }
     ensures given { S.given source.new ≡ S.given source.old + length (read_bytes result (drop done text.new.items)) }
     ensures faults { ReadCounts result (S.faults source.old) (S.faults source.new) }

@@ -26,7 +26,8 @@ pub fn serve<K: Sink>(
     line: &str,
     sink: &mut K,
 ) -> Result<(), Stop>
-    ensures reply { OnOk result (K.written sink.new ≡ append_known (K.written sink.old) (reply session.old line.now).0) }
+    ensures reply { OnOk result (K.written sink.new
+        ≡ append_known (K.written sink.old) (reply session.old line.now).0) }
     ensures next { OnOk result (session.new ≡ (reply session.old line.now).1) }
     ensures part { WrotePart (K.written sink.old) (K.written sink.new) (reply session.old line.now).0 }
     ensures fault { result ≡ Err Stop.WriteFault → Rose (K.faults sink.old) (K.faults sink.new) }

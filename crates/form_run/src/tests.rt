@@ -3,15 +3,17 @@ ghost use Rattle.std.specs.Prelude.{◌≤◌};
 use super::*;
 use form_ports::{Blob, MemSink, MemSource};
 use std::alloc::Global;
+use std::process::Abort;
 use std::test::Fail;
 
 const BASE: &str = "https://example.com/a?x#f";
 
-const FIRST: &str =
-    "<form action=\"/s\"><input name=\"q\" required></form>\n%script\nenter @2\nset @2 \"a b\"\nset @2 \"a b\"\nenter @2\nshow @2\n";
+const FIRST: &str = "<form action=\"/s\"><input name=\"q\" required></form>\n%script\nenter @2\n\
+    set @2 \"a b\"\nset @2 \"a b\"\nenter @2\nshow @2\n";
 
-const FIRST_TEXT: &str =
-    "page 2\nstopped\ninvalid @2 valueMissing\nok\n@2 value=\"a b\" checked=no candidate=yes flags=-\nok\nok\nrequest GET https://example.com/s?q=a+b\nok\nrefused unbuilt\n";
+const FIRST_TEXT: &str = "page 2\nstopped\ninvalid @2 valueMissing\nok\n\
+    @2 value=\"a b\" checked=no candidate=yes flags=-\nok\nok\n\
+    request GET https://example.com/s?q=a+b\nok\nrefused unbuilt\n";
 
 const BAD_PAGE: &str = "bad page unbuilt 0\n";
 
@@ -57,155 +59,106 @@ fn run_in(alloc: Global, words: &[&str], setting: Setting<'_>) -> Result<(Status
     Ok((status, sink.bytes().to_vec(alloc)?))
 }
 
+// That a run over this setting ends so, and has written this text.
+fn gives(
+    rt: &impl Abort,
+    alloc: Global,
+    setting: Setting<'_>,
+    status: Status,
+    text: &str,
+) -> Result<(), Fail>
+    requires { 1 ≤ setting.piece }
+{
+    let (got, written) = run_in(alloc, &[BASE], setting)?;
+    assert_eq!(rt; got, status);
+    assert_eq!(rt; written.as_slice(), text.as_bytes());
+    Ok(())
+}
+
+// The same of an input that is read at once.
+fn page_gives(
+    rt: &impl Abort,
+    alloc: Global,
+    input: &str,
+    status: Status,
+    text: &str,
+) -> Result<(), Fail> {
+    gives(rt, alloc, Setting::of(input.as_bytes()), status, text)
+}
+
 const FREE: &str = "<form action=\"/s\"><input name=\"q\"></form>\n";
 
-// The document's URL, the input, the status and the text.
-const ROWS: [(&str, &str, Status, &str); 9] = [
-    (BASE, FIRST, Status::Done, FIRST_TEXT),
-    (BASE, "<form></form>", Status::Page, BAD_PAGE),
-    (BASE, "", Status::Page, BAD_PAGE),
-    (BASE, "%script\nenter @2\n", Status::Page, BAD_PAGE),
+// The document's URL, the input and the text of a run that ends with Done.
+const ROWS: [(&str, &str, &str); 5] = [
+    (BASE, FIRST, FIRST_TEXT),
     (
         "mailto:a@b.c",
         "<form action=\"/s\"><input name=\"q\"></form>\n%script\nenter @2",
-        Status::Done,
         "page 2\nnone action\nok\n",
     ),
     (
         BASE,
         "<form action=\"mailto:a@b.c\"><input name=\"q\"></form>\n%script\nenter @2",
-        Status::Done,
         "page 2\nnone scheme\nok\n",
     ),
     (
         BASE,
-        "<form action=\"\"><input name=\"q\"></form>\n%script\nenter @2\nset @2 \"&\"\nenter @2\nset @2 \"\"\n",
-        Status::Done,
-        "page 2\nrequest GET https://example.com/a?q=#f\nok\n@2 value=\"&\" checked=no candidate=yes flags=-\nok\nrequest GET https://example.com/a?q=%26#f\nok\n@2 value=\"\" checked=no candidate=yes flags=-\nok\n",
+        "<form action=\"\"><input name=\"q\"></form>\n%script\nenter @2\n\
+        set @2 \"&\"\nenter @2\nset @2 \"\"\n",
+        "page 2\nrequest GET https://example.com/a?q=#f\nok\n\
+        @2 value=\"&\" checked=no candidate=yes flags=-\nok\n\
+        request GET https://example.com/a?q=%26#f\nok\n\
+        @2 value=\"\" checked=no candidate=yes flags=-\nok\n",
     ),
     (
         BASE,
-        "<form action=\"/s\"><input name=\"q\" required></form>\n%script\nset @2 \"x\"\nset @2 \"\"\n",
-        Status::Done,
-        "page 2\n@2 value=\"x\" checked=no candidate=yes flags=-\nok\n@2 value=\"\" checked=no candidate=yes flags=valueMissing\nok\n",
-    ),
-    (
-        BASE,
-        "<form action=\"/s\"><input name=\"q\"></form>",
-        Status::Done,
-        "page 2\n",
+        "<form action=\"/s\"><input name=\"q\" required></form>\n%script\n\
+        set @2 \"x\"\nset @2 \"\"\n",
+        "page 2\n@2 value=\"x\" checked=no candidate=yes flags=-\nok\n\
+        @2 value=\"\" checked=no candidate=yes flags=valueMissing\nok\n",
     ),
 ];
 
-// A page, the status and the text: pages in free spelling, and pages that are spelled but not taken.
-const SPELLED: [(&str, Status, &str); 27] = [
-    (
-        "<form ACTION=/s><!-- c --><input name=q></form>",
-        Status::Done,
-        "page 2\n",
-    ),
-    (
-        "<!DOCTYPE html>\r\n<FORM action='/s'>a<Input NAME = 'q' Required />b &amp; c</fORM>\r\n",
-        Status::Done,
-        "page 2\n",
-    ),
-    (
-        "<form action><input required=\"\" name=q></form>",
-        Status::Done,
-        "page 2\n",
-    ),
-    (
-        "<form action=&#47;&#x73;><input name=q name=r></form>",
-        Status::Done,
-        "page 2\n",
-    ),
-    (
-        "<form action=\"/s\"><input name=\"q\"></form>\n\n",
-        Status::Done,
-        "page 2\n",
-    ),
-    (
-        "<form action=\"/s\"><input name=\"q\"></form>\n%script\r\nenter @2\n",
-        Status::Done,
-        "page 2\n",
-    ),
-    (
-        "<form action=\"/s\"><input name=\"q\"></form>\n%script \n%script\nenter @2\n",
-        Status::Done,
-        "page 2\nrequest GET https://example.com/s?q=\nok\n",
-    ),
-    ("<p>a &amp; b</p>", Status::Page, BAD_PAGE),
-    ("a", Status::Page, BAD_PAGE),
-    ("<form action=/s></form>", Status::Page, BAD_PAGE),
-    ("<input name=q>", Status::Page, BAD_PAGE),
-    ("<form><input name=q></form>", Status::Page, BAD_PAGE),
-    ("<form action=/s><input></form>", Status::Page, BAD_PAGE),
-    (
-        "<form action=/s id=a><input name=q></form>",
-        Status::Page,
-        BAD_PAGE,
-    ),
-    (
-        "<form action=/s><input name=q id=a></form>",
-        Status::Page,
-        BAD_PAGE,
-    ),
-    (
-        "<form action=/s><input required></form>",
-        Status::Page,
-        BAD_PAGE,
-    ),
-    (
-        "<form action=/s><input name=q required id=a></form>",
-        Status::Page,
-        BAD_PAGE,
-    ),
-    (
-        "<form action=/s></form><input name=q>",
-        Status::Page,
-        BAD_PAGE,
-    ),
-    (
-        "<input name=q><form action=/s></form>",
-        Status::Page,
-        BAD_PAGE,
-    ),
-    (
-        "<form action=/s><p><input name=q></p></form>",
-        Status::Page,
-        BAD_PAGE,
-    ),
-    (
-        "<form action=/s><textarea name=q></textarea></form>",
-        Status::Page,
-        BAD_PAGE,
-    ),
-    ("<p action=/s><input name=q></p>", Status::Page, BAD_PAGE),
-    (
-        "<form action=\"/s\"><input name=\"\"></form>",
-        Status::Page,
-        BAD_PAGE,
-    ),
-    (
-        "<form action=/s><input name=q-1></form>",
-        Status::Page,
-        BAD_PAGE,
-    ),
-    (
-        "<form action=\"&\"><input name=\"q\"></form>",
-        Status::Page,
-        BAD_PAGE,
-    ),
-    (
-        "<form action=\"&amp;\"><input name=\"q\"></form>",
-        Status::Page,
-        BAD_PAGE,
-    ),
-    (
-        "<form action=\"é\"><input name=\"q\"></form>",
-        Status::Page,
-        BAD_PAGE,
-    ),
+// Pages in free spelling, each of which is taken.
+const TAKEN: [&str; 7] = [
+    "<form action=\"/s\"><input name=\"q\"></form>",
+    "<form ACTION=/s><!-- c --><input name=q></form>",
+    "<!DOCTYPE html>\r\n<FORM action='/s'>a<Input NAME = 'q' Required />b &amp; c</fORM>\r\n",
+    "<form action><input required=\"\" name=q></form>",
+    "<form action=&#47;&#x73;><input name=q name=r></form>",
+    "<form action=\"/s\"><input name=\"q\"></form>\n\n",
+    "<form action=\"/s\"><input name=\"q\"></form>\n%script\r\nenter @2\n",
+];
+
+// The line that ends the page is the first of its spelling.
+const SECOND_LINE: &str =
+    "<form action=\"/s\"><input name=\"q\"></form>\n%script \n%script\nenter @2\n";
+
+// Pages that are spelled but not taken.
+const NOT_TAKEN: [&str; 23] = [
+    "<form></form>",
+    "",
+    "%script\nenter @2\n",
+    "<p>a &amp; b</p>",
+    "a",
+    "<form action=/s></form>",
+    "<input name=q>",
+    "<form><input name=q></form>",
+    "<form action=/s><input></form>",
+    "<form action=/s id=a><input name=q></form>",
+    "<form action=/s><input name=q id=a></form>",
+    "<form action=/s><input required></form>",
+    "<form action=/s><input name=q required id=a></form>",
+    "<form action=/s></form><input name=q>",
+    "<input name=q><form action=/s></form>",
+    "<form action=/s><p><input name=q></p></form>",
+    "<form action=/s><textarea name=q></textarea></form>",
+    "<p action=/s><input name=q></p>",
+    "<form action=\"/s\"><input name=\"\"></form>",
+    "<form action=/s><input name=q-1></form>",
+    "<form action=\"&\"><input name=\"q\"></form>",
+    "<form action=\"&amp;\"><input name=\"q\"></form>",
+    "<form action=\"é\"><input name=\"q\"></form>",
 ];
 
 // A page with a fault, and the line. Places count after line ends are made LF.
@@ -230,10 +183,14 @@ const FAULTS: [(&str, &str); 13] = [
 
 #[test]
 fn spelled_pages(rt: HostRuntime) -> Result<(), Fail> {
-    for (page, status, text) in SPELLED {
-        let (got, written) = run_in(rt.alloc(), &[BASE], Setting::of(page.as_bytes()))?;
-        assert_eq!(rt; got, status);
-        assert_eq!(rt; written.as_slice(), text.as_bytes());
+    let alloc = rt.alloc();
+    for page in TAKEN {
+        page_gives(&rt, alloc, page, Status::Done, "page 2\n")?;
+    }
+    let text = "page 2\nrequest GET https://example.com/s?q=\nok\n";
+    page_gives(&rt, alloc, SECOND_LINE, Status::Done, text)?;
+    for page in NOT_TAKEN {
+        page_gives(&rt, alloc, page, Status::Page, BAD_PAGE)?;
     }
     Ok(())
 }
@@ -241,9 +198,7 @@ fn spelled_pages(rt: HostRuntime) -> Result<(), Fail> {
 #[test]
 fn pages_with_faults(rt: HostRuntime) -> Result<(), Fail> {
     for (page, line) in FAULTS {
-        let (got, written) = run_in(rt.alloc(), &[BASE], Setting::of(page.as_bytes()))?;
-        assert_eq!(rt; got, Status::Page);
-        assert_eq!(rt; written.as_slice(), line.as_bytes());
+        page_gives(&rt, rt.alloc(), page, Status::Page, line)?;
     }
     Ok(())
 }
@@ -261,9 +216,7 @@ fn deep_pages(rt: HostRuntime) -> Result<(), Fail> {
         for _ in 0..depth {
             page.extend_from_slice(b"<p>")?;
         }
-        let (got, written) = run_in(rt.alloc(), &[BASE], Setting::of(&page))?;
-        assert_eq!(rt; got, Status::Page);
-        assert_eq!(rt; written.as_slice(), line.as_bytes());
+        gives(&rt, rt.alloc(), Setting::of(&page), Status::Page, line)?;
     }
     Ok(())
 }
@@ -284,19 +237,15 @@ const NO_COMMANDS: [&str; 10] = [
 
 #[test]
 fn transcripts(rt: HostRuntime) -> Result<(), Fail> {
-    for (base, input, status, text) in ROWS {
+    for (base, input, text) in ROWS {
         let (got, written) = run_in(rt.alloc(), &[base], Setting::of(input.as_bytes()))?;
-        assert_eq!(rt; got, status);
+        assert_eq!(rt; got, Status::Done);
         assert_eq!(rt; written.as_slice(), text.as_bytes());
     }
     for line in NO_COMMANDS {
         let input = format!(in rt.alloc(); "{}%script\n{}\nenter @2", FREE, line)?;
-        let (got, written) = run_in(rt.alloc(), &[BASE], Setting::of(input.as_bytes()))?;
-        assert_eq!(rt; got, Status::Done);
-        assert_eq!(rt;
-            written.as_slice(),
-            b"page 2\nrefused unbuilt\nrequest GET https://example.com/s?q=\nok\n".as_slice()
-        );
+        let text = "page 2\nrefused unbuilt\nrequest GET https://example.com/s?q=\nok\n";
+        page_gives(&rt, rt.alloc(), &input, Status::Done, text)?;
     }
     Ok(())
 }
@@ -329,9 +278,7 @@ const NOT_UTF8: [(&[u8], &str); 3] = [
 #[test]
 fn bytes_that_are_no_text(rt: HostRuntime) -> Result<(), Fail> {
     for (input, line) in NOT_UTF8 {
-        let (got, written) = run_in(rt.alloc(), &[BASE], Setting::of(input))?;
-        assert_eq!(rt; got, Status::Page);
-        assert_eq!(rt; written.as_slice(), line.as_bytes());
+        gives(&rt, rt.alloc(), Setting::of(input), Status::Page, line)?;
     }
     Ok(())
 }
@@ -352,13 +299,10 @@ fn each_read_fails_in_turn(rt: HostRuntime) -> Result<(), Fail> {
                 source_fails: &[call],
                 ..first
             };
-            let (status, text) = run_in(rt.alloc(), &[BASE], failing)?;
             if call <= calls {
-                assert_eq!(rt; status, Status::ReadFault);
-                assert_eq!(rt; text.len(), 0);
+                gives(&rt, rt.alloc(), failing, Status::ReadFault, "")?;
             } else {
-                assert_eq!(rt; status, Status::Done);
-                assert_eq!(rt; text.as_slice(), FIRST_TEXT.as_bytes());
+                gives(&rt, rt.alloc(), failing, Status::Done, FIRST_TEXT)?;
             }
         }
     }
@@ -424,17 +368,15 @@ fn a_sink_that_is_full(rt: HostRuntime) -> Result<(), Fail> {
         assert!(rt; FIRST_TEXT.as_bytes().starts_with(&text));
     }
     let room = FIRST_TEXT.len();
-    let (status, text) = run_in(alloc, &[BASE], Setting { room, ..first })?;
-    assert_eq!(rt; status, Status::Done);
-    assert_eq!(rt; text.as_slice(), FIRST_TEXT.as_bytes());
-    Ok(())
+    let whole = Setting { room, ..first };
+    gives(&rt, alloc, whole, Status::Done, FIRST_TEXT)
 }
 
-// The number of bytes of an input, and the status.
-const SIZES: [(usize, Status); 3] = [
-    (16_777_218, Status::TooLong),
-    (16_777_217, Status::TooLong),
-    (16_777_216, Status::Page),
+// The number of bytes of an input, the status and the text.
+const SIZES: [(usize, Status, &str); 3] = [
+    (16_777_218, Status::TooLong, ""),
+    (16_777_217, Status::TooLong, ""),
+    (16_777_216, Status::Page, BAD_PAGE),
 ];
 
 #[test]
@@ -442,16 +384,9 @@ fn inputs_at_the_limit(rt: HostRuntime) -> Result<(), Fail> {
     let alloc = rt.alloc();
     let mut input = Vec::new(alloc);
     input.resize(16_777_218, b' ')?;
-    for (size, expected) in SIZES {
+    for (size, status, text) in SIZES {
         input.truncate(size);
-        let (status, text) = run_in(alloc, &[BASE], Setting::of(&input))?;
-        assert_eq!(rt; status, expected);
-        let line = if expected == Status::Page {
-            BAD_PAGE
-        } else {
-            ""
-        };
-        assert_eq!(rt; text.as_slice(), line.as_bytes());
+        gives(&rt, alloc, Setting::of(&input), status, text)?;
     }
     Ok(())
 }

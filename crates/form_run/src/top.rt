@@ -86,8 +86,10 @@ fn transcribe_page<K: Sink>(
     requires first { is_first_page raws.items ≡ true }
     requires tree { IsTreeOfRaws raws.items }
     ensures end { IsEnd result ≡ true → (result ≡ Status.Done)
-        × (K.written sink.new ≡ append_known (K.written sink.old) (transcript base (lines_of commands.now) (Ok raws.items))) }
-    ensures part { WrotePart (K.written sink.old) (K.written sink.new) (transcript base (lines_of commands.now) (Ok raws.items)) }
+        × (K.written sink.new
+        ≡ append_known (K.written sink.old) (transcript base (lines_of commands.now) (Ok raws.items))) }
+    ensures part { WrotePart (K.written sink.old) (K.written sink.new)
+        (transcript base (lines_of commands.now) (Ok raws.items)) }
     ensures write_fault { result ≡ Status.WriteFault → Rose (K.faults sink.old) (K.faults sink.new) }
     ensures kinds { IsWritingEnd result ≡ true }
     ensures later { K.faults sink.old ≤ K.faults sink.new }
@@ -138,8 +140,10 @@ fn open<S: Source>(
     ensures at_end { OnOk result (IsAtEnd (S.held source.new)) }
     ensures kinds { IfErr result (λ status. IsReadingEnd status ≡ true) }
     ensures usage { result ≡ Err Status.Usage → base_of (map string_bytes words.now) ≡ None }
-    ensures only_usage { base_of (map string_bytes words.now) ≡ None → (result ≡ Err Status.Usage) ⊎ (result ≡ Err Status.Memory) }
-    ensures unread { result ≡ Err Status.Usage → (S.given source.new ≡ S.given source.old) × (S.held source.new ≡ S.held source.old) }
+    ensures only_usage { base_of (map string_bytes words.now) ≡ None
+        → (result ≡ Err Status.Usage) ⊎ (result ≡ Err Status.Memory) }
+    ensures unread { result ≡ Err Status.Usage
+        → (S.given source.new ≡ S.given source.old) × (S.held source.new ≡ S.held source.old) }
     ensures read_fault { result ≡ Err Status.ReadFault → Rose (S.faults source.old) (S.faults source.new) }
     ensures too_long { result ≡ Err Status.TooLong → S.given source.new ≡ S.given source.old + too_many }
     ensures long { result ≡ Err Status.TooLong → IfSome (S.held source.old) (λ input. too_many ≤ length input) }
@@ -185,7 +189,8 @@ pub fn run<S: Source, K: Sink>(
 
     // In every ending what was written is a front of the transcript.
     ensures part { IfSome (S.held source.old) (λ input.
-        WrotePart (K.written sink.old) (K.written sink.new) (expected_text (base_of (map string_bytes words.now)) input)) }
+        WrotePart (K.written sink.old) (K.written sink.new)
+        (expected_text (base_of (map string_bytes words.now)) input)) }
     ensures silent { IsSilent result ≡ true → K.written sink.new ≡ K.written sink.old }
 
     // With Done the page is one that is taken so far; with Page the input is not UTF-8, or its page has a fault, or
@@ -194,8 +199,10 @@ pub fn run<S: Source, K: Sink>(
 
     // Each ending has its cause; want of memory alone is free.
     ensures usage { result ≡ Status.Usage → base_of (map string_bytes words.now) ≡ None }
-    ensures only_usage { base_of (map string_bytes words.now) ≡ None → (result ≡ Status.Usage) ⊎ (result ≡ Status.Memory) }
-    ensures unread { result ≡ Status.Usage → (S.given source.new ≡ S.given source.old) × (S.held source.new ≡ S.held source.old) }
+    ensures only_usage { base_of (map string_bytes words.now) ≡ None
+        → (result ≡ Status.Usage) ⊎ (result ≡ Status.Memory) }
+    ensures unread { result ≡ Status.Usage
+        → (S.given source.new ≡ S.given source.old) × (S.held source.new ≡ S.held source.old) }
     ensures read_fault { result ≡ Status.ReadFault → Rose (S.faults source.old) (S.faults source.new) }
     ensures write_fault { result ≡ Status.WriteFault → Rose (K.faults sink.old) (K.faults sink.new) }
     ensures too_long { result ≡ Status.TooLong → S.given source.new ≡ S.given source.old + too_many }
@@ -210,7 +217,8 @@ pub fn run<S: Source, K: Sink>(
         length input ≤ most_input
         → ¬ (Rose (S.faults source.old) (S.faults source.new)) → ¬ (Rose (K.faults sink.old) (K.faults sink.new))
         → (result ≡ Status.Memory)
-        ⊎ IsWhole (S.held source.new) (K.written sink.old) (K.written sink.new) (base_of (map string_bytes words.now)) result input) }
+        ⊎ IsWhole (S.held source.new) (K.written sink.old) (K.written sink.new)
+        (base_of (map string_bytes words.now)) result input) }
     ensures later { (S.faults source.old ≤ S.faults source.new) × (K.faults sink.old ≤ K.faults sink.new) }
     ensures shelf { shelf.new.items ≡ shelf.old.items }
 {

@@ -1,4 +1,5 @@
 mod StepLemmas
 mod LimitsLaws
+mod RangeExactness
 mod Exactness
 pub mod Laws

@@ -1,41 +1,50 @@
--- The laws of the states: sanitising is idempotent, and is the rule of the state.
-use Rattle.std.proofs.Common.{◌≡◌, inl, inr, ℕ, ◌&&◌, Bool, true, false, cond, List, [], ◌∷◌, map, length, Option, Some, None, refl, ap, sym, subst, ◌∙◌, arith, eqb, ℤ, codes}
+-- The laws of the states that implementations cite: sanitising is idempotent.
+use Rattle.std.proofs.Common.{◌≡◌, ℕ, ◌&&◌, Bool, true, false, cond, List, [], ◌∷◌, map, length, Option, Some, None, refl, ap, sym, ◌∙◌, arith, eqb, ℤ, codes}
 use Rattle.std.specs.Prelude.{option_and_then, unwrap_or}
 use Rattle.std.proofs.lemmas.Bool.{and_parts, eqb-true}
 use Rattle.std.proofs.lemmas.Bool.Decides.{nat_tests}
 use Rattle.std.proofs.lemmas.List.{length-map}
+use Rattle.std.proofs.lemmas.Option.{none-some}
 use Rattle.std.specs.List.{list_all}
 use Rattle.std.specs.Char.{to_ascii_lowercase, is_ascii_hexdigit}
 use Rattle.form_text.specs.LineEnds.{without_newlines}
 use Rattle.form_text.specs.Whitespace.{stripped}
 use Rattle.form_text.proofs.Laws.{without_newlines_again, stripped_again, stripped_keeps_none}
-use Rattle.form_calendar.specs.LocalDateTime.{local_number, local_text}
-use Rattle.form_calendar.specs.Shortest.{IsShortestLocal}
 use Rattle.form_types.specs.declared.kind.Kind.{Kind}
-use Rattle.form_types.specs.declared.kind.Kind.TheVariants as kinds
+use Rattle.form_calendar.specs.LocalDateTime.{local_number, local_text}
+use Rattle.form_calendar.proofs.Laws.{local_laws}
 use Rattle.form_states.specs.declared.limits.Limits.{Limits}
-use Rattle.form_calendar.proofs.Laws.{local_found as valid_local, local_again as local_read, local_text_back, local_number_text, local_text_shortest}
-use Rattle.form_states.specs.NumberLaws.{number_found, number_again}
-use Rattle.form_states.specs.States.{HasNumber, number_of, IsSanitised, sanitised}
-use Rattle.form_states.specs.Limits.{IsLimits, HasDecimals}
-use Rattle.form_states.specs.Sanitised.{kept_if_number, is_simple_color, color_sanitised, local_sanitised, IsKeptIfValid, IsNormalised}
-use Rattle.form_states.specs.RangeLaws.{range_is}
+use Rattle.form_states.specs.States.{number_of, text_for, sanitised, IsTextState}
+use Rattle.form_states.specs.Sanitised.{kept_if_number, is_simple_color, color_sanitised, local_sanitised}
+
+-- a state without numbers: what is made twice is made once, and no text stands for a number
+pub text_again : (kind : Kind) (made : List ℕ → List ℕ) → IsTextState kind made
+    → ((t : List ℕ) → made (made t) ≡ made t)
+    → (l : Limits) (t : List ℕ) → sanitised kind l (sanitised kind l t) ≡ sanitised kind l t
+text_again kind made rules again l t = rw (rules.0 l t, rules.0 l (made t)) (again t)
+
+pub text_reads_back : (kind : Kind) (made : List ℕ → List ℕ) → IsTextState kind made
+    → (n : ℤ) (t : List ℕ) → text_for kind n ≡ Some t → number_of kind t ≡ Some n
+text_reads_back kind made rules n t h = absurd (none-some t (sym (rules.2 n) ∙ h))
 
 -- newlines and then whitespace at the ends: nothing is left to take away
-pub url_again : (t : List ℕ) → stripped (without_newlines (stripped (without_newlines t))) ≡ stripped (without_newlines t)
+pub url_again : (t : List ℕ)
+    → stripped (without_newlines (stripped (without_newlines t))) ≡ stripped (without_newlines t)
 url_again t =
     ap stripped (stripped_keeps_none (without_newlines t) (without_newlines_again t))
     ∙ stripped_again (without_newlines t)
 
 -- a text that has a number stays, and the empty text is empty whatever it has
-pub kept_again : (read : List ℕ → Option ℤ) (t : List ℕ) → kept_if_number (read (kept_if_number (read t) t)) (kept_if_number (read t) t) ≡ kept_if_number (read t) t
+pub kept_again : (read : List ℕ → Option ℤ) (t : List ℕ)
+    → kept_if_number (read (kept_if_number (read t) t)) (kept_if_number (read t) t) ≡ kept_if_number (read t) t
 kept_again read t = go (read t) refl
   where
     empty : (o : Option ℤ) → kept_if_number o [] ≡ []
     empty (Some n) = refl
     empty None = refl
 
-    go : (o : Option ℤ) → read t ≡ o → kept_if_number (read (kept_if_number o t)) (kept_if_number o t) ≡ kept_if_number o t
+    go : (o : Option ℤ) → read t ≡ o
+        → kept_if_number (read (kept_if_number o t)) (kept_if_number o t) ≡ kept_if_number o t
     go (Some n) e = ap (λ o. kept_if_number o t) e
     go None e = empty (read [])
 
@@ -44,23 +53,27 @@ pub local_again : (t : List ℕ) → local_sanitised (local_sanitised t) ≡ loc
 unfolding local_number
 local_again t = go (local_number t) refl
   where
-    go : (o : Option ℤ) → local_number t ≡ o → local_sanitised (unwrap_or (option_and_then local_text o) []) ≡ unwrap_or (option_and_then local_text o) []
+    go : (o : Option ℤ) → local_number t ≡ o
+        → local_sanitised (unwrap_or (option_and_then local_text o) []) ≡ unwrap_or (option_and_then local_text o) []
     go None e = refl
     go (Some n) e =
-        let s = local_number_text t n e in
+        let s = local_laws.there t n (local_laws.found t n e) in
         let f : unwrap_or (local_text n) [] ≡ s.0 = ap (λ o. unwrap_or o []) s.1 in
         ap local_sanitised f
-        ∙ ap (λ o. unwrap_or (option_and_then local_text o) []) (local_text_back n s.0 s.1)
+        ∙ ap (λ o. unwrap_or (option_and_then local_text o) []) (local_laws.back n s.0 s.1)
 
 -- lower case stays lower case, and a simple colour in lower case is one
 lower_again : (t : List ℕ) → map to_ascii_lowercase (map to_ascii_lowercase t) ≡ map to_ascii_lowercase t
 lower_again [] = refl
-lower_again (x ∷ xs) = let e : to_ascii_lowercase (to_ascii_lowercase x) ≡ to_ascii_lowercase x = grind (arith, nat_tests) in cc (e, lower_again xs)
+lower_again (x ∷ xs) =
+    let e : to_ascii_lowercase (to_ascii_lowercase x) ≡ to_ascii_lowercase x = grind (arith, nat_tests) in
+    cc (e, lower_again xs)
 
 hex_lower : (c : ℕ) → is_ascii_hexdigit c ≡ true → is_ascii_hexdigit (to_ascii_lowercase c) ≡ true
 hex_lower c h = grind (arith, nat_tests)
 
-all_hex_lower : (t : List ℕ) → list_all is_ascii_hexdigit t ≡ true → list_all is_ascii_hexdigit (map to_ascii_lowercase t) ≡ true
+all_hex_lower : (t : List ℕ) → list_all is_ascii_hexdigit t ≡ true
+    → list_all is_ascii_hexdigit (map to_ascii_lowercase t) ≡ true
 all_hex_lower [] h = refl
 all_hex_lower (x ∷ xs) h =
     let parts = and_parts (is_ascii_hexdigit x) (list_all is_ascii_hexdigit xs) h in
@@ -78,35 +91,10 @@ color_lower (x ∷ xs) h =
 pub color_again : (t : List ℕ) → color_sanitised (color_sanitised t) ≡ color_sanitised t
 color_again t = go (is_simple_color t) refl
   where
-    go : (b : Bool) → is_simple_color t ≡ b → color_sanitised (cond b (map to_ascii_lowercase t) (codes "#000000")) ≡ cond b (map to_ascii_lowercase t) (codes "#000000")
+    lower : List ℕ
+    lower = map to_ascii_lowercase t
+
+    go : (b : Bool) → is_simple_color t ≡ b
+        → color_sanitised (cond b lower (codes "#000000")) ≡ cond b lower (codes "#000000")
     go true e = rw (color_lower t e) (lower_again t)
     go false e = refl
-
--- what is kept, and what is normalised, is what the rule says
-kept_is : (kind : Kind) (t : List ℕ) → IsKeptIfValid (HasNumber kind) t (kept_if_number (number_of kind t) t)
-kept_is kind t = go (number_of kind t) refl
-  where
-    go : (o : Option ℤ) → number_of kind t ≡ o → IsKeptIfValid (HasNumber kind) t (kept_if_number o t)
-    go (Some n) e = inl ((n, number_found kind t n e), refl)
-    go None e = inr ((λ n h. let f : number_of kind t ≡ Some n = number_again kind t n h in cc), refl)
-
-normalised_is : (t : List ℕ) → IsNormalised t (local_sanitised t)
-normalised_is t = go (local_number t) refl
-  where
-    go : (o : Option ℤ) → local_number t ≡ o → IsNormalised t (unwrap_or (option_and_then local_text o) [])
-    go (Some n) e =
-        let s = local_number_text t n e in
-        let f : s.0 ≡ unwrap_or (local_text n) [] = sym (ap (λ o. unwrap_or o []) s.1) in
-        inl (n, (valid_local t n e, subst (λ r. IsShortestLocal r n) f (local_text_shortest n s.0 s.1)))
-    go None e = inr ((λ n h. let f : local_number t ≡ Some n = local_read t n h in cc), refl)
-
--- The function gives what the rule of the state says.
-pub sanitised_is : (kind : Kind) (l : Limits) (t : List ℕ) → IsLimits kind l → HasDecimals l → IsSanitised kind l t (sanitised kind l t)
-sanitised_is kinds.Range l t h d = range_is l t h.step d
-sanitised_is kinds.Date l t h d = kept_is kinds.Date t
-sanitised_is kinds.Month l t h d = kept_is kinds.Month t
-sanitised_is kinds.Week l t h d = kept_is kinds.Week t
-sanitised_is kinds.Time l t h d = kept_is kinds.Time t
-sanitised_is kinds.Number l t h d = kept_is kinds.Number t
-sanitised_is kinds.Local l t h d = normalised_is t
-sanitised_is kind l t h d = refl

@@ -5,6 +5,7 @@ use Rattle.std.proofs.lemmas.Bool.{eqb-true, eq-eqb, le-leb, leb-true}
 use Rattle.std.proofs.lemmas.Option.{option_and_then_some, same_Some}
 use Rattle.form_types.specs.declared.kind.Kind.{Kind}
 use Rattle.form_types.specs.declared.kind.Kind.TheVariants as kinds
+use Rattle.form_decimal.specs.Numeral.{IsValidNumber}
 use Rattle.form_decimal.specs.Reading.{valid_number}
 use Rattle.form_decimal.specs.Printed.{IsPrinted, printed}
 use Rattle.form_decimal.proofs.Laws.{valid_found, valid_again, valid_bound, printed_again, printed_is}
@@ -15,7 +16,7 @@ use Rattle.form_calendar.specs.Week.{IsValidWeek, week_number, week_text}
 use Rattle.form_calendar.specs.Time.{IsValidTime, time_number, time_text}
 use Rattle.form_calendar.specs.LocalDateTime.{IsValidLocal, local_number, local_text}
 use Rattle.form_calendar.specs.Shortest.{IsShortest, IsShortestLocal}
-use Rattle.form_calendar.proofs.Laws.{date_found, date_again, date_text_back, date_text_shortest, date_number_text, month_found, month_again, month_text_back, month_text_shortest, month_number_text, week_found, week_again, week_text_back, week_text_shortest, week_number_text, time_found, time_again, time_text_back, time_text_shortest, time_number_text, local_found, local_again, local_text_back, local_text_shortest, local_number_text}
+use Rattle.form_calendar.proofs.Laws.{StringLaws, date_laws, month_laws, week_laws, time_laws, local_laws}
 use Rattle.form_states.specs.Numbers.{IsDecimal, in_units, IsWhole, whole_of, decimal_text}
 use Rattle.form_states.specs.States.{HasNumber, number_of, IsTextFor, text_for}
 
@@ -24,7 +25,8 @@ use Rattle.form_states.specs.States.{HasNumber, number_of, IsTextFor, text_for}
 whole_pos : (k a : ℕ) → k ≡ a * 1000000000000 → (k % 1000000000000 ≡ 0) × (k / 1000000000000 ≡ a)
 whole_pos k a h = (omega arith, omega arith)
 
-whole_neg : (k a : ℕ) → suc k ≡ suc a * 1000000000000 → (1000000000000 - 1 - k % 1000000000000 ≡ 0) × (k / 1000000000000 ≡ a)
+whole_neg : (k a : ℕ) → suc k ≡ suc a * 1000000000000
+    → (1000000000000 - 1 - k % 1000000000000 ≡ 0) × (k / 1000000000000 ≡ a)
 whole_neg k a h = (omega arith, omega arith)
 
 whole_if : (r : ℕ) (d m : ℤ) → r ≡ 0 → d ≡ m → cond (r == 0) (Some d) None ≡ Some m
@@ -61,102 +63,79 @@ whole_found (negsuc k) m h =
     let f : k ≡ k / 1000000000000 * 1000000000000 + 999999999999 = omega arith in
     ap negsuc f ∙ sym (neg_units (k / 1000000000000)) ∙ ap in_units (same_Some (negsuc (k / 1000000000000)) m p.1)
 
--- what is read is a whole number with a meaning, and each such number is read
-whole_is : (read : List ℕ → Option ℤ) (IsValid : List ℕ → ℤ → Type 0) → ((t : List ℕ) (m : ℤ) → read t ≡ Some m → IsValid t m) → (t : List ℕ) (n : ℤ) → option_map in_units (read t) ≡ Some n → IsWhole (IsValid t) n
-whole_is read IsValid found t n h = let p = some_map in_units (read t) n h in (p.0, found t p.0 p.1, sym p.2)
-
-whole_only : (read : List ℕ → Option ℤ) (IsValid : List ℕ → ℤ → Type 0) → ((t : List ℕ) (m : ℤ) → IsValid t m → read t ≡ Some m) → (t : List ℕ) (n : ℤ) → IsWhole (IsValid t) n → option_map in_units (read t) ≡ Some n
-whole_only read IsValid again t n h = ap (option_map in_units) (again t h.0 h.1) ∙ ap Some (sym h.2)
-
--- a text that is written reads back
-pub whole_back : (read : List ℕ → Option ℤ) (write : ℤ → Option (List ℕ)) → ((m : ℤ) (t : List ℕ) → write m ≡ Some t → read t ≡ Some m) → (n : ℤ) (t : List ℕ) → option_and_then write (whole_of n) ≡ Some t → option_map in_units (read t) ≡ Some n
-whole_back read write back n t h =
-    option_and_then_some write (whole_of n) t h (λ (m : ℤ) (e : whole_of n ≡ Some m) (f : write m ≡ Some t). ap (option_map in_units) (back m t f) ∙ ap Some (sym (whole_found n m e)))
-
--- and each number that is read is written
-whole_there : (read : List ℕ → Option ℤ) (write : ℤ → Option (List ℕ)) → ((t : List ℕ) (m : ℤ) → read t ≡ Some m → (s : List ℕ) × (write m ≡ Some s)) → (t : List ℕ) (n : ℤ) → option_map in_units (read t) ≡ Some n → (s : List ℕ) × (option_and_then write (whole_of n) ≡ Some s)
-whole_there read write there t n h =
-    let p = some_map in_units (read t) n h in
-    let s = there t p.0 p.1 in
-    (s.0, ap (λ x. option_and_then write (whole_of x)) (sym p.2) ∙ ap (option_and_then write) (whole_again p.0) ∙ s.1)
+-- strings whose numbers are whole have the same laws with their numbers in units
+whole_laws : (IsValid IsBest : List ℕ → ℤ → Type 0) (read : List ℕ → Option ℤ) (write : ℤ → Option (List ℕ))
+    → StringLaws IsValid IsBest read write
+    → StringLaws (λ t n. IsWhole (IsValid t) n) (λ t n. IsWhole (IsBest t) n) (λ t. option_map in_units (read t))
+    (λ n. option_and_then write (whole_of n))
+whole_laws IsValid IsBest read write laws = record {
+  found = λ t n h. let p = some_map in_units (read t) n h in (p.0, laws.found t p.0 p.1, sym p.2);
+  again = λ t n h. ap (option_map in_units) (laws.again t h.0 h.1) ∙ ap Some (sym h.2);
+  best = λ n t h. option_and_then_some write (whole_of n) t h
+      (λ (m : ℤ) (e : whole_of n ≡ Some m) (f : write m ≡ Some t). (m, laws.best m t f, whole_found n m e));
+  back = λ n t h. option_and_then_some write (whole_of n) t h
+      (λ (m : ℤ) (e : whole_of n ≡ Some m) (f : write m ≡ Some t).
+      ap (option_map in_units) (laws.back m t f) ∙ ap Some (sym (whole_found n m e)));
+  there = λ t n h.
+      let s = laws.there t h.0 h.1 in
+      (s.0, ap (λ x. option_and_then write (whole_of x)) h.2 ∙ ap (option_and_then write) (whole_again h.0) ∙ s.1);
+}
 
 -- ---- decimals
 
-pub decimal_there : (n : ℤ) → IsDecimal n → decimal_text n ≡ Some (printed n)
+decimal_there : (n : ℤ) → IsDecimal n → decimal_text n ≡ Some (printed n)
 decimal_there n h = ap (λ b. cond b (Some (printed n)) None) (le-leb (unsigned_abs n) (10 ^ 29) h)
 
-pub decimal_back : (n : ℤ) (t : List ℕ) → decimal_text n ≡ Some t → valid_number t ≡ Some n
-decimal_back n t h =
+decimal_if : (n : ℤ) (t : List ℕ) → decimal_text n ≡ Some t → IsDecimal n × (printed n ≡ t)
+decimal_if n t h =
     let p = some_if (nat_le (unsigned_abs n) (10 ^ 29)) (Some (printed n)) t h in
-    subst (λ x. valid_number x ≡ Some n) (same_Some (printed n) t p.1) (printed_again n (leb-true (unsigned_abs n) (10 ^ 29) p.0))
+    (leb-true (unsigned_abs n) (10 ^ 29) p.0, same_Some (printed n) t p.1)
 
-decimal_written : (t : List ℕ) (n : ℤ) → valid_number t ≡ Some n → (s : List ℕ) × (decimal_text n ≡ Some s)
-decimal_written t n h = (printed n, decimal_there n (valid_bound t n h))
+decimal_laws : StringLaws IsValidNumber (λ t n. IsPrinted n t) valid_number decimal_text
+decimal_laws = record {
+  found = valid_found;
+  again = valid_again;
+  best = λ n t h. let p = decimal_if n t h in subst (IsPrinted n) p.1 (printed_is n p.0);
+  back = λ n t h. let p = decimal_if n t h in subst (λ x. valid_number x ≡ Some n) p.1 (printed_again n p.0);
+  there = λ t n h. (printed n, decimal_there n (valid_bound t n (valid_again t n h)));
+}
 
 -- ---- each state
 
+no_laws : StringLaws (λ t n. ⊥) (λ t n. ⊥) (λ t. None) (λ n. None)
+no_laws = record {
+  found = λ t n h. cc;
+  again = λ t n h. absurd h;
+  best = λ n t h. cc;
+  back = λ n t h. cc;
+  there = λ t n h. absurd h;
+}
+
+laws_of : (kind : Kind) → StringLaws (HasNumber kind) (IsTextFor kind) (number_of kind) (text_for kind)
+laws_of kinds.Date = whole_laws IsValidDate (IsShortest IsValidDate) date_number date_text date_laws
+laws_of kinds.Month = whole_laws IsValidMonth (IsShortest IsValidMonth) month_number month_text month_laws
+laws_of kinds.Week = whole_laws IsValidWeek (IsShortest IsValidWeek) week_number week_text week_laws
+laws_of kinds.Time = whole_laws IsValidTime (IsShortest IsValidTime) time_number time_text time_laws
+laws_of kinds.Local = whole_laws IsValidLocal IsShortestLocal local_number local_text local_laws
+laws_of kinds.Number = decimal_laws
+laws_of kinds.Range = decimal_laws
+laws_of kind = no_laws
+
 -- the function gives a number exactly where the text has it
 pub number_found : (kind : Kind) (text : List ℕ) (n : ℤ) → number_of kind text ≡ Some n → HasNumber kind text n
-number_found kinds.Date text n h = whole_is date_number IsValidDate date_found text n h
-number_found kinds.Month text n h = whole_is month_number IsValidMonth month_found text n h
-number_found kinds.Week text n h = whole_is week_number IsValidWeek week_found text n h
-number_found kinds.Time text n h = whole_is time_number IsValidTime time_found text n h
-number_found kinds.Local text n h = whole_is local_number IsValidLocal local_found text n h
-number_found kinds.Number text n h = valid_found text n h
-number_found kinds.Range text n h = valid_found text n h
-number_found kind text n h = cc
+number_found kind = (laws_of kind).found
 
 pub number_again : (kind : Kind) (text : List ℕ) (n : ℤ) → HasNumber kind text n → number_of kind text ≡ Some n
-number_again kinds.Date text n h = whole_only date_number IsValidDate date_again text n h
-number_again kinds.Month text n h = whole_only month_number IsValidMonth month_again text n h
-number_again kinds.Week text n h = whole_only week_number IsValidWeek week_again text n h
-number_again kinds.Time text n h = whole_only time_number IsValidTime time_again text n h
-number_again kinds.Local text n h = whole_only local_number IsValidLocal local_again text n h
-number_again kinds.Number text n h = valid_again text n h
-number_again kinds.Range text n h = valid_again text n h
-number_again kind text n h = absurd h
+number_again kind = (laws_of kind).again
 
--- the text of a number reads back as it
+-- the text of a number stands for it, and reads back as it
+pub text_is : (kind : Kind) (n : ℤ) (text : List ℕ) → text_for kind n ≡ Some text → IsTextFor kind text n
+text_is kind = (laws_of kind).best
+
 pub text_back : (kind : Kind) (n : ℤ) (text : List ℕ) → text_for kind n ≡ Some text → number_of kind text ≡ Some n
-text_back kinds.Date n text h = whole_back date_number date_text date_text_back n text h
-text_back kinds.Month n text h = whole_back month_number month_text month_text_back n text h
-text_back kinds.Week n text h = whole_back week_number week_text week_text_back n text h
-text_back kinds.Time n text h = whole_back time_number time_text time_text_back n text h
-text_back kinds.Local n text h = whole_back local_number local_text local_text_back n text h
-text_back kinds.Number n text h = decimal_back n text h
-text_back kinds.Range n text h = decimal_back n text h
-text_back kind n text h = cc
+text_back kind = (laws_of kind).back
 
 -- and there is a text wherever a valid text has the number
-pub text_there : (kind : Kind) (text : List ℕ) (n : ℤ) → number_of kind text ≡ Some n → (s : List ℕ) × (text_for kind n ≡ Some s)
-text_there kinds.Date text n h = whole_there date_number date_text date_number_text text n h
-text_there kinds.Month text n h = whole_there month_number month_text month_number_text text n h
-text_there kinds.Week text n h = whole_there week_number week_text week_number_text text n h
-text_there kinds.Time text n h = whole_there time_number time_text time_number_text text n h
-text_there kinds.Local text n h = whole_there local_number local_text local_number_text text n h
-text_there kinds.Number text n h = decimal_written text n h
-text_there kinds.Range text n h = decimal_written text n h
-text_there kind text n h = cc
-
--- what is written is the text that stands for the number
-whole_written : (write : ℤ → Option (List ℕ)) (IsText : List ℕ → ℤ → Type 0) → ((m : ℤ) (t : List ℕ) → write m ≡ Some t → IsText t m) → (n : ℤ) (t : List ℕ) → option_and_then write (whole_of n) ≡ Some t → IsWhole (IsText t) n
-whole_written write IsText is n t h = go (whole_of n) refl h
-  where
-    go : (o : Option ℤ) → whole_of n ≡ o → option_and_then write o ≡ Some t → IsWhole (IsText t) n
-    go (Some m) e h = (m, is m t h, whole_found n m e)
-    go None e h = cc
-
-decimal_is : (n : ℤ) (t : List ℕ) → decimal_text n ≡ Some t → IsPrinted n t
-decimal_is n t h =
-    let p = some_if (nat_le (unsigned_abs n) (10 ^ 29)) (Some (printed n)) t h in
-    subst (IsPrinted n) (same_Some (printed n) t p.1) (printed_is n (leb-true (unsigned_abs n) (10 ^ 29) p.0))
-
-pub text_is : (kind : Kind) (n : ℤ) (text : List ℕ) → text_for kind n ≡ Some text → IsTextFor kind text n
-text_is kinds.Date n text h = whole_written date_text (IsShortest IsValidDate) date_text_shortest n text h
-text_is kinds.Month n text h = whole_written month_text (IsShortest IsValidMonth) month_text_shortest n text h
-text_is kinds.Week n text h = whole_written week_text (IsShortest IsValidWeek) week_text_shortest n text h
-text_is kinds.Time n text h = whole_written time_text (IsShortest IsValidTime) time_text_shortest n text h
-text_is kinds.Local n text h = whole_written local_text IsShortestLocal local_text_shortest n text h
-text_is kinds.Number n text h = decimal_is n text h
-text_is kinds.Range n text h = decimal_is n text h
-text_is kind n text h = cc
+pub text_there : (kind : Kind) (text : List ℕ) (n : ℤ) → number_of kind text ≡ Some n
+    → (s : List ℕ) × (text_for kind n ≡ Some s)
+text_there kind text n h = (laws_of kind).there text n (number_found kind text n h)

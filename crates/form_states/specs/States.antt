@@ -161,3 +161,11 @@ IsSanitised kind = (rules_of kind).becomes
 -- the same as a function
 abbrev pub sanitised : Kind → Limits → List ℕ → List ℕ
 sanitised kind = (rules_of kind).made
+
+-- a state without numbers and without limits of its own, which makes that of a text
+abbrev pub IsTextState : Kind → (List ℕ → List ℕ) → Type 0
+IsTextState kind made =
+    ((limits : Limits) (text : List ℕ) → sanitised kind limits text ≡ made text)
+    × ((text : List ℕ) → number_of kind text ≡ None) × ((n : ℤ) → text_for kind n ≡ None)
+    × ((rules_of kind).lenient ≡ false) × ((rules_of kind).minimum ≡ None)
+    × ((rules_of kind).maximum ≡ None) × ((rules_of kind).base ≡ pos 0)

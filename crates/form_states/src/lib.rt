@@ -3,9 +3,10 @@
 //! element").
 //!
 //! Each state's rules stand in one file of `src/states`, as an implementation of [`InputState`]
-//! for the state's row type, and what it says of limits beside the table of types. The definitions
-//! are `specs/Numbers`, `specs/Limits`, `specs/Range` and `specs/Sanitised`. A number counts units
-//! of 10^-12, and so does a step.
+//! for the state's row type; states of one form share a file. A state without numbers implements
+//! `TextState`, and one that keeps each text `PlainState`: the rest follows. The definitions are
+//! `specs/States`, `specs/Numbers`, `specs/Limits`, `specs/Range` and `specs/Sanitised`. A number
+//! counts units of 10^-12, and so does a step.
 //!
 //! [`sanitise`], [`number`] and [`text_of`] answer by two clauses each: by the rule, a relation
 //! (`IsSanitised`, `HasNumber`), and by a function of the same meaning, on which the crates above
@@ -22,6 +23,7 @@ mod limits;
 mod states;
 #[cfg(test)]
 mod tests;
+mod text_state;
 mod whole;
 
 use form_decimal::Decimal;

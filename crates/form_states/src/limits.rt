@@ -1,16 +1,17 @@
 //! The limits of a control, by its attributes (HTML, "The min and max attributes", "The step
 //! attribute").
-ghost use Rattle.std.specs.Prelude.{◌≡◌, true, false, ℤ, pos, ◌*ℤ◌, ◌≤ℤ◌, ◌^◌, ◌≤◌, Option, Some, None, IfSome, unwrap_or, option_map, unsigned_abs, codes};
+ghost use Rattle.std.specs.Prelude.{◌≡◌, true, false, ℤ, pos, ◌*ℤ◌, ◌≤ℤ◌, None, IfSome, unwrap_or, option_map, codes};
 ghost use Rattle.std.specs.Str.{str_eq_ignore_ascii_case};
 ghost use Rattle.form_types.specs.declared.kind.Kind.{Kind};
-ghost use Rattle.form_states.specs.Numbers.{IsDecimal, in_units};
+ghost use Rattle.form_states.specs.Numbers.{IsDecimal};
 ghost use Rattle.form_states.specs.States.{rules_of};
 ghost use Rattle.form_states.specs.Limits.{attribute_number, number_in, step_by, positive_or, allowed_value_step, limits_of, IsScale, IsDefaultStep, IsStep, IsLimits, HasDecimals};
 
+use crate::input_state::InputState;
 use crate::number;
 use crate::whole::whole;
 use form_decimal::{Decimal, read_lenient};
-use form_types::{Kind, Row, default_step, scale, with_state};
+use form_types::{Kind, default_step, scale, with_state};
 
 /// The limits of a control, as numbers: its minimum, maximum, allowed value step and step base.
 /// A decimal counts units of 10^-12, and so does the step.
@@ -75,9 +76,10 @@ fn from_attributes(
     step: Option<&str>,
     value: Option<&str>,
 ) -> Limits
-    ensures { result ≡ limits_of kind (option_map (λ t. t.now) min.entry)
+    ensures value { result ≡ limits_of kind (option_map (λ t. t.now) min.entry)
         (option_map (λ t. t.now) max.entry) (option_map (λ t. t.now) step.entry)
         (option_map (λ t. t.now) value.entry) }
+    ensures step { IfSome result.step IsStep }
 {
     let own = defaults_of(kind);
     Limits {
@@ -90,24 +92,14 @@ fn from_attributes(
     }
 }
 
-/// What a state says of limits beside the table of types.
-pub(crate) trait LimitedState: Row {
-    /// What stands where no attribute gives a number.
-    fn defaults() -> Defaults
-        ensures lenient { result.lenient ≡ (rules_of Self.KIND).lenient }
-        ensures min { result.min ≡ (rules_of Self.KIND).minimum }
-        ensures max { result.max ≡ (rules_of Self.KIND).maximum }
-        ensures base { result.base ≡ (rules_of Self.KIND).base };
-}
-
 /// Whether the attributes of a state are read by the rules for parsing floating-point number values,
 /// and its default minimum, maximum and step base.
 #[derive(Drop)]
-pub(crate) struct Defaults {
-    lenient: bool,
-    min: Option<Decimal>,
-    max: Option<Decimal>,
-    base: Decimal,
+pub struct Defaults {
+    pub(crate) lenient: bool,
+    pub(crate) min: Option<Decimal>,
+    pub(crate) max: Option<Decimal>,
+    pub(crate) base: Decimal,
 }
 
 impl Defaults {
@@ -119,38 +111,6 @@ impl Defaults {
             lenient,
             min: None,
             max: None,
-            base: Decimal::zero(),
-        }
-    }
-
-    /// No ends, and a step base of its own.
-    pub(crate) fn from_base(base: i64) -> Defaults
-        requires { unsigned_abs base ≤ 10 ^ 15 }
-        ensures { result ≡ record { lenient = false; min = None; max = None; base = in_units base } }
-    {
-        Defaults {
-            lenient: false,
-            min: None,
-            max: None,
-            base: whole(base),
-        }
-    }
-
-    /// Ends of its own, and 0 as the step base.
-    pub(crate) fn from_ends(min: i64, max: i64) -> Defaults
-        requires low { unsigned_abs min ≤ 10 ^ 15 }
-        requires high { unsigned_abs max ≤ 10 ^ 15 }
-        ensures { result ≡ record {
-          lenient = true;
-          min = Some (in_units min);
-          max = Some (in_units max);
-          base = pos 0;
-        } }
-    {
-        Defaults {
-            lenient: true,
-            min: Some(whole(min)),
-            max: Some(whole(max)),
             base: Decimal::zero(),
         }
     }
@@ -175,7 +135,7 @@ fn number_in(kind: Kind, attribute: Option<&str>) -> Option<Decimal>
     }
 }
 
-fn state_defaults<S: LimitedState>() -> Defaults
+fn state_defaults<S: InputState>() -> Defaults
     ensures lenient { result.lenient ≡ (rules_of S.KIND).lenient }
     ensures min { result.min ≡ (rules_of S.KIND).minimum }
     ensures max { result.max ≡ (rules_of S.KIND).maximum }

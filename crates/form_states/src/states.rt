@@ -1,13 +1,10 @@
-//! The states, each with its rules in one file.
+//! The states, each with its rules in one file; states of one form stand in one.
 
+mod calendar;
 mod color;
-mod date;
 mod line;
 mod local;
-mod month;
 mod number;
 mod plain;
 mod range;
-mod time;
 mod url;
-mod week;

@@ -1,6 +1,6 @@
 use Rattle.std.proofs.Common.{◌≡◌, string_bytes, subst, sym}
 use Rattle.form_states.specs.States.{IsSanitised, sanitised}
-use Rattle.form_states.specs.Laws.{sanitised_is}
+use Rattle.form_states.proofs.Exactness.{sanitised_is}
 use Rattle.std.proofs.lemmas.Result.{IfOk-weaker}
 use Rattle.form_states.proofs.state_sanitise.Goals as goal
 

@@ -2,40 +2,27 @@
 
 #![tactic(auto, unfolding(form_types::specs::TypeTable::row_of))]
 
+ghost use Rattle.std.proofs.Common.{refl};
 ghost use Rattle.std.specs.Prelude.{◌≡◌, IfOk, string_bytes};
 ghost use Rattle.std.specs.List.{list_all};
 ghost use Rattle.std.specs.Char.{is_ascii_hexdigit};
 ghost use Rattle.form_states.specs.Sanitised.{is_simple_color, color_sanitised};
 ghost use Rattle.form_states.specs.Laws.{color_again};
 
-use crate::input_state::InputState;
-use crate::limits::{Defaults, LimitedState, Limits};
-use form_decimal::Decimal;
+use crate::text_state::TextState;
 use form_types::ColorRow;
 use std::alloc::{AllocError, Global};
 
-impl InputState for ColorRow {
-    fn sanitise(alloc: Global, text: &str, _limits: &Limits) -> Result<String, AllocError> {
+impl TextState for ColorRow {
+    ghost made = { color_sanitised };
+
+    fn made_of(alloc: Global, text: &str) -> Result<String, AllocError> {
         lower_case_or_black(alloc, text)
     }
 
-    fn number(_text: &str) -> Option<Decimal> {
-        None
-    }
+    ghost rules = { (λ _ _. refl, λ _. refl, λ _. refl, refl, refl, refl, refl) };
 
-    fn text_of(_alloc: Global, _n: Decimal) -> Result<Option<String>, AllocError> {
-        Ok(None)
-    }
-
-    ghost idempotent = { λ _ t _. color_again t };
-
-    ghost reads_back = { λ n t h. Prim.cc };
-}
-
-impl LimitedState for ColorRow {
-    fn defaults() -> Defaults {
-        Defaults::none(false)
-    }
+    ghost again = { color_again };
 }
 
 fn lower_case_or_black(alloc: Global, text: &str) -> Result<String, AllocError>

@@ -2,107 +2,59 @@
 
 #![tactic(auto, unfolding(form_types::specs::TypeTable::row_of))]
 
+ghost use Rattle.std.proofs.Common.{refl};
+ghost use Rattle.form_text.specs.LineEnds.{without_newlines};
 ghost use Rattle.form_text.proofs.Laws.{without_newlines_again};
 
-use crate::input_state::InputState;
-use crate::limits::{Defaults, LimitedState, Limits};
-use form_decimal::Decimal;
+use crate::text_state::TextState;
 use form_text::strip_newlines;
 use form_types::{PasswordRow, SearchRow, TelRow, TextRow};
 use std::alloc::{AllocError, Global};
 
-impl InputState for TextRow {
-    fn sanitise(alloc: Global, text: &str, _limits: &Limits) -> Result<String, AllocError> {
+impl TextState for TextRow {
+    ghost made = { without_newlines };
+
+    fn made_of(alloc: Global, text: &str) -> Result<String, AllocError> {
         strip_newlines(alloc, text)
     }
 
-    fn number(_text: &str) -> Option<Decimal> {
-        None
-    }
+    ghost rules = { (λ _ _. refl, λ _. refl, λ _. refl, refl, refl, refl, refl) };
 
-    fn text_of(_alloc: Global, _n: Decimal) -> Result<Option<String>, AllocError> {
-        Ok(None)
-    }
-
-    ghost idempotent = { λ _ t _. without_newlines_again t };
-
-    ghost reads_back = { λ n t h. Prim.cc };
+    ghost again = { without_newlines_again };
 }
 
-impl LimitedState for TextRow {
-    fn defaults() -> Defaults {
-        Defaults::none(false)
-    }
-}
+impl TextState for SearchRow {
+    ghost made = { without_newlines };
 
-impl InputState for SearchRow {
-    fn sanitise(alloc: Global, text: &str, _limits: &Limits) -> Result<String, AllocError> {
+    fn made_of(alloc: Global, text: &str) -> Result<String, AllocError> {
         strip_newlines(alloc, text)
     }
 
-    fn number(_text: &str) -> Option<Decimal> {
-        None
-    }
+    ghost rules = { (λ _ _. refl, λ _. refl, λ _. refl, refl, refl, refl, refl) };
 
-    fn text_of(_alloc: Global, _n: Decimal) -> Result<Option<String>, AllocError> {
-        Ok(None)
-    }
-
-    ghost idempotent = { λ _ t _. without_newlines_again t };
-
-    ghost reads_back = { λ n t h. Prim.cc };
+    ghost again = { without_newlines_again };
 }
 
-impl LimitedState for SearchRow {
-    fn defaults() -> Defaults {
-        Defaults::none(false)
-    }
-}
+impl TextState for TelRow {
+    ghost made = { without_newlines };
 
-impl InputState for TelRow {
-    fn sanitise(alloc: Global, text: &str, _limits: &Limits) -> Result<String, AllocError> {
+    fn made_of(alloc: Global, text: &str) -> Result<String, AllocError> {
         strip_newlines(alloc, text)
     }
 
-    fn number(_text: &str) -> Option<Decimal> {
-        None
-    }
+    ghost rules = { (λ _ _. refl, λ _. refl, λ _. refl, refl, refl, refl, refl) };
 
-    fn text_of(_alloc: Global, _n: Decimal) -> Result<Option<String>, AllocError> {
-        Ok(None)
-    }
-
-    ghost idempotent = { λ _ t _. without_newlines_again t };
-
-    ghost reads_back = { λ n t h. Prim.cc };
+    ghost again = { without_newlines_again };
 }
 
-impl LimitedState for TelRow {
-    fn defaults() -> Defaults {
-        Defaults::none(false)
-    }
-}
+impl TextState for PasswordRow {
+    ghost made = { without_newlines };
 
-impl InputState for PasswordRow {
-    fn sanitise(alloc: Global, text: &str, _limits: &Limits) -> Result<String, AllocError> {
+    fn made_of(alloc: Global, text: &str) -> Result<String, AllocError> {
         strip_newlines(alloc, text)
     }
 
-    fn number(_text: &str) -> Option<Decimal> {
-        None
-    }
+    ghost rules = { (λ _ _. refl, λ _. refl, λ _. refl, refl, refl, refl, refl) };
 
-    fn text_of(_alloc: Global, _n: Decimal) -> Result<Option<String>, AllocError> {
-        Ok(None)
-    }
-
-    ghost idempotent = { λ _ t _. without_newlines_again t };
-
-    ghost reads_back = { λ n t h. Prim.cc };
-}
-
-impl LimitedState for PasswordRow {
-    fn defaults() -> Defaults {
-        Defaults::none(false)
-    }
+    ghost again = { without_newlines_again };
 }

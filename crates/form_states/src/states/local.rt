@@ -5,15 +5,12 @@
 
 ghost use Rattle.std.specs.Prelude.{◌≡◌, IfOk, string_bytes};
 ghost use Rattle.form_types.specs.declared.kind.Kind.{Kind};
-ghost use Rattle.form_calendar.specs.LocalDateTime.{local_number, local_text};
-ghost use Rattle.form_calendar.proofs.Laws.{local_text_back};
-ghost use Rattle.form_states.specs.States.{number_of};
 ghost use Rattle.form_states.specs.Sanitised.{local_sanitised};
-ghost use Rattle.form_states.specs.NumberLaws.{whole_back};
+ghost use Rattle.form_states.specs.NumberLaws.{text_back};
 ghost use Rattle.form_states.specs.Laws.{local_again};
 
 use crate::input_state::InputState;
-use crate::limits::{Defaults, LimitedState, Limits};
+use crate::limits::{Defaults, Limits};
 use crate::whole::{in_units, whole_of};
 use form_calendar::{print_local, read_local};
 use form_decimal::Decimal;
@@ -26,7 +23,7 @@ impl InputState for LocalRow {
     }
 
     fn number(text: &str) -> Option<Decimal> {
-        number(text)
+        in_units(read_local(text))
     }
 
     fn text_of(alloc: Global, n: Decimal) -> Result<Option<String>, AllocError> {
@@ -36,21 +33,13 @@ impl InputState for LocalRow {
         print_local(alloc, n)
     }
 
-    ghost idempotent = { λ _ t _. local_again t };
-
-    ghost reads_back = { whole_back local_number local_text local_text_back };
-}
-
-impl LimitedState for LocalRow {
     fn defaults() -> Defaults {
         Defaults::none(false)
     }
-}
 
-fn number(text: &str) -> Option<Decimal>
-    ensures { result ≡ number_of Kind.Local text.now }
-{
-    in_units(read_local(text))
+    ghost idempotent = { λ _ t _. local_again t };
+
+    ghost reads_back = { text_back Kind.Local };
 }
 
 fn normalised(alloc: Global, text: &str) -> Result<String, AllocError>

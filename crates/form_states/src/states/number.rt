@@ -5,11 +5,11 @@
 
 ghost use Rattle.form_types.specs.declared.kind.Kind.{Kind};
 ghost use Rattle.form_states.specs.States.{number_of};
-ghost use Rattle.form_states.specs.NumberLaws.{decimal_back};
+ghost use Rattle.form_states.specs.NumberLaws.{text_back};
 ghost use Rattle.form_states.specs.Laws.{kept_again};
 
 use crate::input_state::InputState;
-use crate::limits::{Defaults, LimitedState, Limits};
+use crate::limits::{Defaults, Limits};
 use crate::whole::{decimal_text, kept_if_number};
 use form_decimal::{Decimal, read_valid};
 use form_types::NumberRow;
@@ -28,13 +28,11 @@ impl InputState for NumberRow {
         decimal_text(alloc, n)
     }
 
-    ghost idempotent = { λ _ t _. kept_again (number_of Kind.Number) t };
-
-    ghost reads_back = { decimal_back };
-}
-
-impl LimitedState for NumberRow {
     fn defaults() -> Defaults {
         Defaults::none(true)
     }
+
+    ghost idempotent = { λ _ t _. kept_again (number_of Kind.Number) t };
+
+    ghost reads_back = { text_back Kind.Number };
 }

@@ -4,203 +4,59 @@
 #![tactic(auto, unfolding(form_types::specs::TypeTable::row_of))]
 
 ghost use Rattle.std.proofs.Common.{refl};
+ghost use Rattle.form_states.specs.States.{IsTextState};
 
-use crate::input_state::InputState;
-use crate::limits::{Defaults, LimitedState, Limits};
-use form_decimal::Decimal;
+use crate::text_state::TextState;
 use form_types::{
-    ButtonRow, CheckboxRow, FileRow, HiddenRow, ImageRow, RadioRow, ResetRow, SubmitRow,
+    ButtonRow, CheckboxRow, FileRow, HiddenRow, ImageRow, RadioRow, ResetRow, Row, SubmitRow,
 };
 use std::alloc::{AllocError, Global};
 
-impl InputState for HiddenRow {
-    fn sanitise(alloc: Global, text: &str, _limits: &Limits) -> Result<String, AllocError> {
+/// A state that keeps each text as it is.
+pub trait PlainState: Row {
+    ghost plain: { IsTextState Self.KIND (λ t. t) };
+}
+
+impl<S: PlainState> TextState for S {
+    ghost made = { λ t. t };
+
+    fn made_of(alloc: Global, text: &str) -> Result<String, AllocError> {
         String::from_str(alloc, text)
     }
 
-    fn number(_text: &str) -> Option<Decimal> {
-        None
-    }
+    ghost rules = { S.plain };
 
-    fn text_of(_alloc: Global, _n: Decimal) -> Result<Option<String>, AllocError> {
-        Ok(None)
-    }
-
-    ghost idempotent = { λ _ _ _. refl };
-
-    ghost reads_back = { λ n t h. Prim.cc };
+    ghost again = { λ _. refl };
 }
 
-impl LimitedState for HiddenRow {
-    fn defaults() -> Defaults {
-        Defaults::none(false)
-    }
+impl PlainState for HiddenRow {
+    ghost plain = { (λ _ _. refl, λ _. refl, λ _. refl, refl, refl, refl, refl) };
 }
 
-impl InputState for CheckboxRow {
-    fn sanitise(alloc: Global, text: &str, _limits: &Limits) -> Result<String, AllocError> {
-        String::from_str(alloc, text)
-    }
-
-    fn number(_text: &str) -> Option<Decimal> {
-        None
-    }
-
-    fn text_of(_alloc: Global, _n: Decimal) -> Result<Option<String>, AllocError> {
-        Ok(None)
-    }
-
-    ghost idempotent = { λ _ _ _. refl };
-
-    ghost reads_back = { λ n t h. Prim.cc };
+impl PlainState for CheckboxRow {
+    ghost plain = { (λ _ _. refl, λ _. refl, λ _. refl, refl, refl, refl, refl) };
 }
 
-impl LimitedState for CheckboxRow {
-    fn defaults() -> Defaults {
-        Defaults::none(false)
-    }
+impl PlainState for RadioRow {
+    ghost plain = { (λ _ _. refl, λ _. refl, λ _. refl, refl, refl, refl, refl) };
 }
 
-impl InputState for RadioRow {
-    fn sanitise(alloc: Global, text: &str, _limits: &Limits) -> Result<String, AllocError> {
-        String::from_str(alloc, text)
-    }
-
-    fn number(_text: &str) -> Option<Decimal> {
-        None
-    }
-
-    fn text_of(_alloc: Global, _n: Decimal) -> Result<Option<String>, AllocError> {
-        Ok(None)
-    }
-
-    ghost idempotent = { λ _ _ _. refl };
-
-    ghost reads_back = { λ n t h. Prim.cc };
+impl PlainState for FileRow {
+    ghost plain = { (λ _ _. refl, λ _. refl, λ _. refl, refl, refl, refl, refl) };
 }
 
-impl LimitedState for RadioRow {
-    fn defaults() -> Defaults {
-        Defaults::none(false)
-    }
+impl PlainState for SubmitRow {
+    ghost plain = { (λ _ _. refl, λ _. refl, λ _. refl, refl, refl, refl, refl) };
 }
 
-impl InputState for FileRow {
-    fn sanitise(alloc: Global, text: &str, _limits: &Limits) -> Result<String, AllocError> {
-        String::from_str(alloc, text)
-    }
-
-    fn number(_text: &str) -> Option<Decimal> {
-        None
-    }
-
-    fn text_of(_alloc: Global, _n: Decimal) -> Result<Option<String>, AllocError> {
-        Ok(None)
-    }
-
-    ghost idempotent = { λ _ _ _. refl };
-
-    ghost reads_back = { λ n t h. Prim.cc };
+impl PlainState for ImageRow {
+    ghost plain = { (λ _ _. refl, λ _. refl, λ _. refl, refl, refl, refl, refl) };
 }
 
-impl LimitedState for FileRow {
-    fn defaults() -> Defaults {
-        Defaults::none(false)
-    }
+impl PlainState for ResetRow {
+    ghost plain = { (λ _ _. refl, λ _. refl, λ _. refl, refl, refl, refl, refl) };
 }
 
-impl InputState for SubmitRow {
-    fn sanitise(alloc: Global, text: &str, _limits: &Limits) -> Result<String, AllocError> {
-        String::from_str(alloc, text)
-    }
-
-    fn number(_text: &str) -> Option<Decimal> {
-        None
-    }
-
-    fn text_of(_alloc: Global, _n: Decimal) -> Result<Option<String>, AllocError> {
-        Ok(None)
-    }
-
-    ghost idempotent = { λ _ _ _. refl };
-
-    ghost reads_back = { λ n t h. Prim.cc };
-}
-
-impl LimitedState for SubmitRow {
-    fn defaults() -> Defaults {
-        Defaults::none(false)
-    }
-}
-
-impl InputState for ImageRow {
-    fn sanitise(alloc: Global, text: &str, _limits: &Limits) -> Result<String, AllocError> {
-        String::from_str(alloc, text)
-    }
-
-    fn number(_text: &str) -> Option<Decimal> {
-        None
-    }
-
-    fn text_of(_alloc: Global, _n: Decimal) -> Result<Option<String>, AllocError> {
-        Ok(None)
-    }
-
-    ghost idempotent = { λ _ _ _. refl };
-
-    ghost reads_back = { λ n t h. Prim.cc };
-}
-
-impl LimitedState for ImageRow {
-    fn defaults() -> Defaults {
-        Defaults::none(false)
-    }
-}
-
-impl InputState for ResetRow {
-    fn sanitise(alloc: Global, text: &str, _limits: &Limits) -> Result<String, AllocError> {
-        String::from_str(alloc, text)
-    }
-
-    fn number(_text: &str) -> Option<Decimal> {
-        None
-    }
-
-    fn text_of(_alloc: Global, _n: Decimal) -> Result<Option<String>, AllocError> {
-        Ok(None)
-    }
-
-    ghost idempotent = { λ _ _ _. refl };
-
-    ghost reads_back = { λ n t h. Prim.cc };
-}
-
-impl LimitedState for ResetRow {
-    fn defaults() -> Defaults {
-        Defaults::none(false)
-    }
-}
-
-impl InputState for ButtonRow {
-    fn sanitise(alloc: Global, text: &str, _limits: &Limits) -> Result<String, AllocError> {
-        String::from_str(alloc, text)
-    }
-
-    fn number(_text: &str) -> Option<Decimal> {
-        None
-    }
-
-    fn text_of(_alloc: Global, _n: Decimal) -> Result<Option<String>, AllocError> {
-        Ok(None)
-    }
-
-    ghost idempotent = { λ _ _ _. refl };
-
-    ghost reads_back = { λ n t h. Prim.cc };
-}
-
-impl LimitedState for ButtonRow {
-    fn defaults() -> Defaults {
-        Defaults::none(false)
-    }
+impl PlainState for ButtonRow {
+    ghost plain = { (λ _ _. refl, λ _. refl, λ _. refl, refl, refl, refl, refl) };
 }

@@ -6,15 +6,16 @@
 #![tactic(auto, unfolding(form_types::specs::TypeTable::row_of))]
 
 ghost use Rattle.std.specs.Prelude.{◌≡◌, ◌≤ℤ◌, ℤ, pos, IfOk, IfSome, Some, None, string_bytes, unwrap_or};
+ghost use Rattle.form_types.specs.declared.kind.Kind.{Kind};
 ghost use Rattle.form_decimal.specs.Nearest.{nearest_of};
 ghost use Rattle.form_states.specs.Range.{top_of, middle, up_to, raised_to, clamped, stepped, low_of, high_of, top_in, default_in, corrected_in, corrected_text, range_sanitised};
 ghost use Rattle.form_states.specs.Limits.{IsStep};
-ghost use Rattle.form_states.specs.NumberLaws.{decimal_back};
+ghost use Rattle.form_states.specs.NumberLaws.{text_back};
 ghost use Rattle.form_states.specs.RangeLaws.{range_again};
 
 use crate::input_state::InputState;
-use crate::limits::{Defaults, LimitedState, Limits};
-use crate::whole::decimal_text;
+use crate::limits::{Defaults, Limits};
+use crate::whole::{decimal_text, whole};
 use form_decimal::{Decimal, aligned, half_between, nearest_aligned, print, read_valid};
 use form_types::RangeRow;
 use std::alloc::{AllocError, Global};
@@ -32,15 +33,17 @@ impl InputState for RangeRow {
         decimal_text(alloc, n)
     }
 
+    fn defaults() -> Defaults {
+        Defaults {
+            min: Some(Decimal::zero()),
+            max: Some(whole(100)),
+            ..Defaults::none(true)
+        }
+    }
+
     ghost idempotent = { range_again };
 
-    ghost reads_back = { decimal_back };
-}
-
-impl LimitedState for RangeRow {
-    fn defaults() -> Defaults {
-        Defaults::from_ends(0, 100)
-    }
+    ghost reads_back = { text_back Kind.Range };
 }
 
 #[tactic(auto, unfolding(crate::specs::Range::range_sanitised))]

@@ -2,36 +2,25 @@
 
 #![tactic(auto, unfolding(form_types::specs::TypeTable::row_of))]
 
+ghost use Rattle.std.proofs.Common.{refl};
+ghost use Rattle.form_text.specs.LineEnds.{without_newlines};
+ghost use Rattle.form_text.specs.Whitespace.{stripped};
 ghost use Rattle.form_states.specs.Laws.{url_again};
 
-use crate::input_state::InputState;
-use crate::limits::{Defaults, LimitedState, Limits};
-use form_decimal::Decimal;
+use crate::text_state::TextState;
 use form_text::{strip_newlines, strip_whitespace};
 use form_types::UrlRow;
 use std::alloc::{AllocError, Global};
 
-impl InputState for UrlRow {
-    fn sanitise(alloc: Global, text: &str, _limits: &Limits) -> Result<String, AllocError> {
+impl TextState for UrlRow {
+    ghost made = { λ t. stripped (without_newlines t) };
+
+    fn made_of(alloc: Global, text: &str) -> Result<String, AllocError> {
         let line = strip_newlines(alloc, text)?;
         String::from_str(alloc, strip_whitespace(line.as_str()))
     }
 
-    fn number(_text: &str) -> Option<Decimal> {
-        None
-    }
+    ghost rules = { (λ _ _. refl, λ _. refl, λ _. refl, refl, refl, refl, refl) };
 
-    fn text_of(_alloc: Global, _n: Decimal) -> Result<Option<String>, AllocError> {
-        Ok(None)
-    }
-
-    ghost idempotent = { λ _ t _. url_again t };
-
-    ghost reads_back = { λ n t h. Prim.cc };
-}
-
-impl LimitedState for UrlRow {
-    fn defaults() -> Defaults {
-        Defaults::none(false)
-    }
+    ghost again = { url_again };
 }

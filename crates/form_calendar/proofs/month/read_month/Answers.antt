@@ -1,17 +1,15 @@
-use Rattle.std.proofs.Common.{ap, sym, ◌∙◌}
-use Rattle.form_calendar.specs.Month.{month_number, IsValidMonth}
-use Rattle.form_calendar.proofs.ReadingLemmas.{if_some}
-use Rattle.form_calendar.proofs.MonthLemmas.{month_found, month_again}
-use Rattle.std.proofs.lemmas.Option.{IfSome_then}
+use Rattle.std.proofs.Common.{ap, ◌∙◌}
+use Rattle.form_calendar.specs.Month.{month_number}
+use Rattle.form_calendar.proofs.StringLaws.{read_found, read_bound}
 use Rattle.form_calendar.proofs.MonthLemmas.{month_bound}
+use Rattle.form_calendar.proofs.MonthLemmas.{month_laws}
 use Rattle.form_calendar.proofs.month.read_month.Goals as goal
 
 pub returns-clause-found : goal.returns-clause-found
-returns-clause-found c =
-    if_some c.month_in.result (IsValidMonth c.args.text.now) (λ n e. month_found c.args.text.now n (ap month_number (sym c.as_bytes.ensures.value) ∙ sym c.month_in.ensures ∙ e))
+returns-clause-found c = read_found month_laws c.args.text.now c.month_in.result (c.month_in.ensures ∙ ap month_number c.as_bytes.ensures.value)
 
 pub returns-clause-only : goal.returns-clause-only
-returns-clause-only c = λ n v. c.month_in.ensures ∙ ap month_number c.as_bytes.ensures.value ∙ month_again c.args.text.now n v
+returns-clause-only c = λ n v. c.month_in.ensures ∙ ap month_number c.as_bytes.ensures.value ∙ month_laws.again c.args.text.now n v
 
 pub returns-clause-bound : goal.returns-clause-bound
-returns-clause-bound c = IfSome_then c.month_in.result (returns-clause-found c) (month_bound c.args.text.now)
+returns-clause-bound c = read_bound month_laws month_bound c.args.text.now c.month_in.result (c.month_in.ensures ∙ ap month_number c.as_bytes.ensures.value)

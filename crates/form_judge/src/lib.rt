@@ -1,0 +1,6 @@
+//! The ten flags of a control.
+#![tactic(auto)]
+
+mod flags;
+
+pub use flags::{Facts, Flags};

@@ -28,8 +28,9 @@ applies_to_text attribute n = is_textarea n || applies_to_input attribute n
 abbrev pub text_where : Bool → List ℕ → Node → Option (List ℕ)
 text_where applies name n = if applies then attr_in n.attrs name else None
 
--- The value of an input in the mode value, and of a textarea (HTML, "Common input element APIs" and
--- "The textarea element", "API value"). No flag asks for that of another control.
+-- The value of an input in the mode value, which is the one that it keeps, and of a textarea (HTML,
+-- "Common input element APIs", and "The textarea element", "API value"). No flag reads another's
+-- (`own_value_is` of proofs/Laws: it is the control's value on every page).
 abbrev pub own_value : Node → List ℕ
 own_value n = if is_textarea n then with_lf n.state.value else n.state.value
 
@@ -55,8 +56,11 @@ may_lack_number kind = is_some (scale_of kind) && applies_to kind attributes.Req
 abbrev pub if_compiles : List ℕ → Option (List ℕ)
 if_compiles text = if does_compile text then Some text else None
 
+-- the text of the control's `pattern` attribute, where it applies
+abbrev pub pattern_text : Node → Option (List ℕ)
+pattern_text n = text_where (applies_to_input attributes.Pattern n) (codes "pattern") n
+
 -- The compiled pattern regular expression of a control, by its characters: that of its `pattern`
 -- attribute, where the attribute applies and compiles (HTML, "The pattern attribute").
 abbrev pub pattern_of : Node → Option (List ℕ)
-pattern_of n = option_and_then if_compiles
-    (option_map chars (text_where (applies_to_input attributes.Pattern n) (codes "pattern") n))
+pattern_of n = option_and_then if_compiles (option_map chars (pattern_text n))

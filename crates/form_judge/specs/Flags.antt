@@ -89,14 +89,15 @@ is_absolute_url text = not (is_err (parse_url None text))
 abbrev pub suffers_from_a_type_mismatch : Node → Bool
 suffers_from_a_type_mismatch n =
     is_input n && is_url_kind (kind_of n)
-    && not (is_empty_text (own_value n)) && not (is_absolute_url (own_value n))
+    && not (is_empty_text n.state.value) && not (is_absolute_url n.state.value)
 
--- Suffering from a pattern mismatch (HTML, "The pattern attribute"): the value is not empty, and the
--- pattern that applies does not match the whole of it. Where none compiles nothing is checked.
+-- Suffering from a pattern mismatch (HTML, "The pattern attribute"): the value of an input is not
+-- empty, and the pattern that applies does not match the whole of it. Where none compiles nothing is
+-- checked.
 abbrev pub suffers_from_a_pattern_mismatch : Node → Bool
 suffers_from_a_pattern_mismatch n =
-    not (is_empty_text (own_value n))
-    && option_map_or (λ pattern. not (does_match pattern (chars (own_value n)))) (pattern_of n) false
+    not (is_empty_text n.state.value)
+    && option_map_or (λ pattern. not (does_match pattern (chars n.state.value))) (pattern_of n) false
 
 -- ---- suffering from a length
 

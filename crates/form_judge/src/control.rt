@@ -1,10 +1,8 @@
 // What the flags read of a control.
-ghost use Rattle.std.specs.Prelude.{◌≡◌, IfOk, codes, false, true};
+ghost use Rattle.std.specs.Prelude.{◌≡◌, IfSome};
 ghost use Rattle.std.specs.Option.{option_copied};
-ghost use Rattle.form_text.specs.LineEnds.{with_lf};
-ghost use Rattle.form_types.specs.TypeTable.{is_one_of};
+ghost use Rattle.form_states.specs.Limits.{IsStep};
 ghost use Rattle.form_tree.specs.Elements.{is_empty_text, is_input, is_input_tag, is_textarea, is_textarea_tag, kind_of};
-ghost use Rattle.form_tree.specs.Tree.{attr_in};
 ghost use Rattle.form_judge.specs.Controls.{applies_to_input, applies_to_text, own_limits, own_number, own_value, text_where};
 
 use form_decimal::Decimal;
@@ -73,7 +71,8 @@ pub fn text_where<'a>(node: &'a Node, applies: bool, name: &str) -> Option<&'a s
 /// The limits that the attributes of an input give.
 pub fn own_limits(node: &Node, kind: Kind) -> Limits
     requires { kind ≡ kind_of node.now }
-    ensures { result ≡ own_limits node.now }
+    ensures value { result ≡ own_limits node.now }
+    ensures step { IfSome result.step IsStep }
 {
     Limits::of(
         kind,
@@ -94,4 +93,18 @@ pub fn own_number(node: &Node, kind: Kind) -> Option<Decimal>
     } else {
         None
     }
+}
+
+/// Whether the value of an input in the mode value or of a textarea is empty.
+#[tactic(auto, using(crate::proofs::ValueLaws::empty_value))]
+pub fn has_empty_value(node: &Node) -> bool
+    ensures { result ≡ is_empty_text (own_value node.now) }
+{
+    is_empty(node.state.value.as_str())
+}
+
+pub fn is_empty(text: &str) -> bool
+    ensures { result ≡ is_empty_text text.now }
+{
+    text.is_empty()
 }

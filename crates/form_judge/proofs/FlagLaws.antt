@@ -38,17 +38,17 @@ not_off false h = absurd (cc)
 pub on_step : (limits : Limits) (number : ℤ) → IfSome limits.step IsStep → is_off_step limits number ≡ false → IsOnStep limits number
 on_step limits number = go limits.step
   where
-  go : (step : Option ℤ) → IfSome step IsStep → option_map_or (λ s. not (is_aligned number limits.base s)) step false ≡ false → IfSome step (λ s. IsAligned number limits.base s)
-  go None some h = tt
-  go (Some s) some h = aligned_found number limits.base s some.0 (not_off (is_aligned number limits.base s) h)
+    go : (step : Option ℤ) → IfSome step IsStep → option_map_or (λ s. not (is_aligned number limits.base s)) step false ≡ false → IfSome step (λ s. IsAligned number limits.base s)
+    go None some h = tt
+    go (Some s) some h = aligned_found number limits.base s some.0 (not_off (is_aligned number limits.base s) h)
 
 -- and back
 pub off_step : (limits : Limits) (number : ℤ) → IfSome limits.step IsStep → IsOnStep limits number → is_off_step limits number ≡ false
 off_step limits number = go limits.step
   where
-  go : (step : Option ℤ) → IfSome step IsStep → IfSome step (λ s. IsAligned number limits.base s) → option_map_or (λ s. not (is_aligned number limits.base s)) step false ≡ false
-  go None some h = refl
-  go (Some s) some h = ap not (aligned_again number limits.base s some.0 h)
+    go : (step : Option ℤ) → IfSome step IsStep → IfSome step (λ s. IsAligned number limits.base s) → option_map_or (λ s. not (is_aligned number limits.base s)) step false ≡ false
+    go None some h = refl
+    go (Some s) some h = ap not (aligned_again number limits.base s some.0 h)
 
 -- a text control that is neither read-only nor disabled is mutable
 pub mutable_is : (t : Nodes) (k : Key) (n : Node) → at_key t k ≡ Some n → (is_input n || is_textarea n) ≡ true → is_mutable t k ≡ not (is_read_only n || is_disabled t k)
@@ -56,10 +56,10 @@ mutable_is t k n found text =
     ap (λ (b : Bool). b && not (is_disabled t k)) (passes_found (λ (m : Node). (is_input m || is_textarea m) && not (is_read_only m)) t k n found)
     ∙ go (is_input n || is_textarea n) (is_read_only n) (is_disabled t k) text
   where
-  go : (a r d : Bool) → a ≡ true → ((a && not r) && not d) ≡ not (r || d)
-  go true true d h = refl
-  go true false d h = refl
-  go false r d h = absurd (cc)
+    go : (a r d : Bool) → a ≡ true → ((a && not r) && not d) ≡ not (r || d)
+    go true true d h = refl
+    go true false d h = refl
+    go false r d h = absurd (cc)
 
 -- the states with numbers that may be without a value, by name
 pub bad_input_states : (kind : Kind) → may_lack_number kind ≡ is_one_of kind (kinds.Date ∷ kinds.Month ∷ kinds.Week ∷ kinds.Time ∷ kinds.Local ∷ kinds.Number ∷ [])

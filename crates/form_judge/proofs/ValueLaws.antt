@@ -43,14 +43,14 @@ value_by names t n tag =
 pub textarea_value : (names : List (List ℕ)) (t : Nodes) (n : Node) → is_textarea n ≡ true → value_at names t n ≡ own_value n
 textarea_value names t n = go n.tag
   where
-  go : (tag : Tag) → is_textarea_tag tag ≡ true → value_by names t n tag ≡ cond (is_textarea_tag tag) (with_lf n.state.value) n.state.value
-  go tags.Textarea h = refl
-  go tag h = absurd (cc)
+    go : (tag : Tag) → is_textarea_tag tag ≡ true → value_by names t n tag ≡ cond (is_textarea_tag tag) (with_lf n.state.value) n.state.value
+    go tags.Textarea h = refl
+    go tag h = absurd (cc)
 
 -- the value of an input in the mode value on every page
 pub input_value : (names : List (List ℕ)) (t : Nodes) (n : Node) → is_input n ≡ true → mode_of (kind_of n) ≡ modes.Value → value_at names t n ≡ own_value n
 input_value names t n input mode = go n.tag input
   where
-  go : (tag : Tag) → is_input_tag tag ≡ true → value_by names t n tag ≡ cond (is_textarea_tag tag) (with_lf n.state.value) n.state.value
-  go tags.Input h = ap (value_in_mode names n) mode
-  go tag h = absurd (cc)
+    go : (tag : Tag) → is_input_tag tag ≡ true → value_by names t n tag ≡ cond (is_textarea_tag tag) (with_lf n.state.value) n.state.value
+    go tags.Input h = ap (value_in_mode names n) mode
+    go tag h = absurd (cc)

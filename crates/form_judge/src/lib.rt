@@ -17,6 +17,7 @@ mod missing;
 mod ranges;
 mod steps;
 
+pub use control::kind_of;
 pub use flags::{Facts, Flags};
 pub use judging::{Verdict, compile_pattern, judge};
 pub use steps::Steps;

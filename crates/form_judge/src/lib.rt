@@ -19,6 +19,7 @@ mod steps;
 #[cfg(test)]
 mod tests;
 
+pub use control::kind_of;
 pub use flags::{Facts, Flags};
 pub use judging::{Verdict, compile_pattern, judge};
 pub use steps::Steps;

@@ -88,8 +88,8 @@ impl Owners {
         })
     }
 
-    // The answers in tree order, lent.
-    pub(crate) fn answers(&self) -> &[Answer]
+    /// What is kept of each element, in tree order.
+    pub fn answers(&self) -> &[Answer]
         ensures { result.now ≡ self.now }
     {
         self.answers.as_slice()

@@ -10,5 +10,5 @@ mod settling;
 mod walk;
 
 pub use options::{option_disabled, option_value, select_of};
-pub use selects::{display_size, missing, placeholder};
+pub use selects::{display_size, first_selected, missing, placeholder};
 pub use settling::{settle, settled};

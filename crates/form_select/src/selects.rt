@@ -1,9 +1,9 @@
 // What a select is.
-ghost use Rattle.std.specs.Prelude.{◌≡◌, codes, false, true};
+ghost use Rattle.std.specs.Prelude.{◌≡◌, IfSome, codes, false, find, true};
 ghost use Rattle.std.specs.List.{list_any, slice_get};
 ghost use Rattle.std.specs.Option.{option_and_then, option_map_or};
 ghost use Rattle.form_text.specs.Integers.{non_negative_integer};
-ghost use Rattle.form_tree.specs.Elements.{is_select, passes, same_key};
+ghost use Rattle.form_tree.specs.Elements.{is_option, is_select, passes, same_key};
 ghost use Rattle.form_tree.specs.Selects.{display_size, is_choice_made, is_multiple, is_select_missing, is_selected, key_if_placeholder, may_have_placeholder, options, placeholder};
 ghost use Rattle.form_tree.specs.Tree.{at_key, attr_of};
 ghost use Rattle.form_select.specs.Options.{options_at};
@@ -145,6 +145,36 @@ fn is_choice(tree: &Tree, placeholder: Option<Key>, option: Key) -> bool
     ensures { result ≡ passes (is_choice_made placeholder) tree.now.nodes option }
 {
     is_selected(tree, option) && !is_that(placeholder, option)
+}
+
+/// The first option of a select that is selected; None where none is.
+pub fn first_selected(tree: &Tree, select: Key) -> Option<Key>
+    requires { passes is_select tree.now.nodes select ≡ true }
+    ensures value { find is_selected (options tree.now.nodes select) ≡ option_and_then (at_key tree.now.nodes) result }
+    ensures option { IfSome result (λ key. passes is_option tree.now.nodes key ≡ true) }
+{
+    let span = descendants(tree, select);
+    for place in span.start..span.end {
+        if let Some(option) = selected_at(tree, select, place) {
+            return Some(option);
+        }
+    }
+    None
+}
+
+// The option at a place, where one is there and is selected.
+fn selected_at(tree: &Tree, select: Key, place: usize) -> Option<Key>
+    ensures value { find is_selected (options_at tree.now.nodes select place) ≡ option_and_then (at_key tree.now.nodes) result }
+    ensures option { IfSome result (λ key. passes is_option tree.now.nodes key ≡ true) }
+{
+    match option_at(tree, select, place) {
+        Some(option) => if is_selected(tree, option) {
+            Some(option)
+        } else {
+            None
+        },
+        None => None,
+    }
 }
 
 /// Whether the option is selected.

@@ -63,6 +63,14 @@ impl Tree {
         self.nodes.len()
     }
 
+    /// The elements themselves, in tree order.
+    pub fn nodes(&self) -> &[Node]
+        ensures value { result.now ≡ self.now.nodes }
+        ensures tree { IsTree self.now.nodes }
+    {
+        self.nodes.as_slice()
+    }
+
     /// The key of the element at a place, counted from 0 in tree order; None where there is none.
     pub fn key_at(&self, place: usize) -> Option<Key>
         ensures { result ≡ key_at self.now.nodes place }

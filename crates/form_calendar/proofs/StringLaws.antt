@@ -19,9 +19,9 @@ one_text IsValid read write found again valid only = record {
   found = found;
   again = again;
   best = λ n text e. record {
-        valid = valid n text e;
-        shortest = λ other v. let same = same_Some text other (sym e ∙ only other n v) in omega (arith, ap length same);
-      };
+    valid = valid n text e;
+    shortest = λ other v. let same = same_Some text other (sym e ∙ only other n v) in omega (arith, ap length same);
+  };
   back = λ n text e. again text n (valid n text e);
   there = λ text n v. (text, only text n v);
 }

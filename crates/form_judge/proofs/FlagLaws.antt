@@ -1,6 +1,7 @@
 -- What the flags depend on, and that the tests among them say what the rules say.
-use Rattle.std.proofs.Common.{◌≡◌, ℕ, Bool, true, false, ◌&&◌, ◌||◌, not, List, [], ◌∷◌, refl, sym, ap, ◌∙◌, arith}
-use Rattle.std.specs.Prelude.{ℤ, Option, Some, None, IfSome, option_map}
+use Rattle.std.proofs.Common.{◌≡◌, Bool, true, false, ◌&&◌, ◌||◌, not, [], ◌∷◌, refl, ap, ◌∙◌}
+use Rattle.std.specs.Prelude.{ℤ, Option, Some, None, IfSome, filter, option_map}
+use Rattle.std.specs.List.{list_any}
 use Rattle.std.specs.Option.{option_map_or}
 use Rattle.form_types.specs.declared.kind.Kind.{Kind}
 use Rattle.form_types.specs.declared.kind.Kind.TheVariants as kinds
@@ -13,7 +14,9 @@ use Rattle.form_states.specs.Limits.{IsOnStep, IsStep}
 use Rattle.form_tree.specs.declared.node.Key.{Key}
 use Rattle.form_tree.specs.declared.node.Node.{Node}
 use Rattle.form_tree.specs.Disabling.{is_disabled, is_mutable, is_read_only}
-use Rattle.form_tree.specs.Elements.{is_input, is_textarea}
+use Rattle.form_tree.specs.Elements.{is_input, is_textarea, passes, same_key, same_owner}
+use Rattle.form_tree.specs.Ownership.{owner_of}
+use Rattle.form_tree.specs.RadioGroup.{is_checked, is_group_missing, is_radio, is_required, name_of, radio_group, same_name, share_group}
 use Rattle.form_tree.specs.Tree.{Nodes, at_key}
 use Rattle.form_tree.proofs.Laws.{passes_found}
 use Rattle.form_judge.specs.declared.flags.Facts.{Facts}
@@ -66,3 +69,16 @@ pub bad_input_states : (kind : Kind) → may_lack_number kind ≡ is_one_of kind
 unfolding row_of
 bad_input_states kinds.Hidden = refl
 bad_input_states kind = refl
+
+none_pass : (p : Node → Bool) → ((n : Node) → p n ≡ false) → (t : Nodes) → filter p t ≡ []
+none_pass p none [] = refl
+none_pass p none (n ∷ t) = rw (none n) (none_pass p none t)
+
+-- an element that is no radio button has no group that could lack a choice
+pub no_group : (t : Nodes) (k : Key) → passes is_radio t k ≡ false → is_group_missing t k ≡ false
+no_group t k other =
+    let empty : radio_group t k ≡ [] = none_pass (λ n. share_group t k n.key) (λ n. alone n.key) t in
+    ap (λ (group : Nodes). list_any is_required group && not (list_any is_checked group)) empty
+  where
+    alone : (j : Key) → share_group t k j ≡ false
+    alone j = ap (λ (b : Bool). b && passes is_radio t j && (same_key k j || (same_owner (owner_of t k) (owner_of t j) && same_name (name_of t k) (name_of t j)))) other

@@ -1,6 +1,6 @@
 -- The keyword `email`, which names no state of the table.
-use Rattle.std.proofs.Common.{◌≡◌, ℕ, Bool, true, List, refl, sym, ap}
-use Rattle.std.specs.Prelude.{IsTrue, Option, Some, None, codes, find, unwrap_or}
+use Rattle.std.proofs.Common.{◌≡◌, ℕ, true, List, sym, ap}
+use Rattle.std.specs.Prelude.{Option, Some, None, codes, find, unwrap_or}
 use Rattle.std.specs.Str.{bytes_eq, str_eq_ignore_ascii_case, str_to_ascii_lowercase}
 use Rattle.std.proofs.lemmas.Slice.Eq.{bytes_eq-Decides}
 use Rattle.form_types.specs.declared.kind.Kind.TheVariants as kinds

@@ -1,7 +1,6 @@
 -- What is known of the value of a text control.
-use Rattle.std.proofs.Common.{◌≡◌, ℕ, Bool, true, false, ◌&&◌, ◌==◌, List, [], ◌∷◌, refl, sym, ap, cond, arith}
-use Rattle.form_text.specs.Bytes.{carriage_return, line_feed}
-use Rattle.form_text.specs.LineEnds.{begins_with_lf, with_lf, with_pairs_joined}
+use Rattle.std.proofs.Common.{◌≡◌, ℕ, Bool, true, false, List, [], ◌∷◌, refl, ap, cond, arith}
+use Rattle.form_text.specs.LineEnds.{with_lf}
 use Rattle.form_types.specs.declared.kind.Mode.TheVariants as modes
 use Rattle.form_types.specs.TypeTable.{mode_of}
 use Rattle.form_tree.specs.declared.node.Node.{Node}

@@ -1,6 +1,6 @@
 -- What the flags read of a control: the attributes that apply to it, its value, its limits, its
 -- number and its pattern.
-use Rattle.std.specs.Prelude.{ℕ, ℤ, ◌&&◌, ◌||◌, not, Bool, List, Option, Some, None, chars, codes, is_some, option_and_then, option_map, if◌then◌else◌}
+use Rattle.std.specs.Prelude.{ℕ, ℤ, ◌&&◌, ◌||◌, Bool, List, Option, Some, None, chars, codes, is_some, option_and_then, option_map, if◌then◌else◌}
 use Rattle.form_text.specs.LineEnds.{with_lf}
 use Rattle.form_types.specs.declared.kind.Kind.{Kind}
 use Rattle.form_types.specs.declared.kind.Attr.{Attr}
@@ -12,7 +12,7 @@ use Rattle.form_states.specs.States.{number_of}
 use Rattle.form_pattern.specs.Deciding.{does_compile}
 use Rattle.form_tree.specs.declared.node.Node.{Node}
 use Rattle.form_tree.specs.Tree.{attr_in}
-use Rattle.form_tree.specs.Elements.{has_attr, is_input, is_textarea, kind_of}
+use Rattle.form_tree.specs.Elements.{is_input, is_textarea, kind_of}
 
 -- an input in a state to which the attribute applies (HTML, "The input element", the table of what
 -- applies to each state)

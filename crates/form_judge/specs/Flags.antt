@@ -1,7 +1,7 @@
 -- The ten flags of a control (HTML, "Constraint validation", "Definitions": the states in which a
 -- control suffers). Each is read of the node of the control and of three facts about the rest of the
 -- page, and of nothing else. The flags of a barred control are defined like those of a candidate.
-use Rattle.std.specs.Prelude.{ℕ, ℤ, nat_lt, int_lt, ◌&&◌, ◌||◌, not, Bool, true, false, List, [], ◌∷◌, Option, Some, None, chars, codes, is_err, option_and_then, option_map, if◌then◌else◌}
+use Rattle.std.specs.Prelude.{ℕ, ℤ, nat_lt, int_lt, ◌&&◌, ◌||◌, not, Bool, true, false, List, [], ◌∷◌, Option, None, chars, codes, is_err, option_and_then, option_map, if◌then◌else◌}
 use Rattle.std.specs.Option.{option_map_or}
 use Rattle.url.specs.Parser.{parse_url}
 use Rattle.form_text.specs.Integers.{non_negative_integer}

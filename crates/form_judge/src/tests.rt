@@ -72,46 +72,60 @@ fn check(rt: &impl Abort, flags: Flags, want: &str, row: &str) {
     assert!(rt; flags.has_some() == !want.is_empty(), "{row}");
 }
 
+// The first cell of a row, and the cells behind it.
+fn cell(row: &str) -> (&str, &str) {
+    match row.split_once('|') {
+        Some((first, rest)) => (first.trim_ascii(), rest),
+        None => (row.trim_ascii(), ""),
+    }
+}
+
 // A state; what holds of an input in it that is required and has nothing else; and what holds of the
 // value `ab` that the user entered, typed as `z`, where the lengths 1 and 3 and the pattern `x` are
 // asked for.
-const STATES: [(&str, &str, &str); 22] = [
-    ("type=hidden", "", ""),
-    ("", "m", "lsp"),
-    ("type=text", "m", "lsp"),
-    ("type=search", "m", "lsp"),
-    ("type=tel", "m", "lsp"),
-    ("type=url", "m", "lspt"),
-    ("type=password", "m", "lsp"),
-    ("type=date", "m", "b"),
-    ("type=month", "m", "b"),
-    ("type=week", "m", "b"),
-    ("type=time", "m", "b"),
-    ("type=datetime-local", "m", "b"),
-    ("type=number", "m", "b"),
-    ("type=range", "", ""),
-    ("type=color", "", ""),
-    ("type=checkbox", "m", ""),
-    ("type=radio", "", ""),
-    ("type=file", "m", ""),
-    ("type=submit", "", ""),
-    ("type=image", "", ""),
-    ("type=reset", "", ""),
-    ("type=button", "", ""),
-];
+const STATES: &str = "\
+type=hidden |  |
+ | m | lsp
+type=text | m | lsp
+type=search | m | lsp
+type=tel | m | lsp
+type=url | m | lspt
+type=password | m | lsp
+type=date | m | b
+type=month | m | b
+type=week | m | b
+type=time | m | b
+type=datetime-local | m | b
+type=number | m | b
+type=range |  |
+type=color |  |
+type=checkbox | m |
+type=radio |  |
+type=file | m |
+type=submit |  |
+type=image |  |
+type=reset |  |
+type=button |  |";
+
+fn check_state(rt: &impl Abort, alloc: Global, row: &str) -> Result<(), Fail> {
+    let (kind, rest) = cell(row);
+    let (missing, edited) = cell(rest);
+    let attrs = format!(in alloc; "{kind} required")?;
+    let flags = judged(alloc, Tag::Input, &attrs, state_of(alloc, "", "")?, "")?;
+    check(rt, flags, missing, row);
+    let attrs = format!(in alloc; "{kind} maxlength=1 minlength=3 pattern=x")?;
+    let mut state = state_of(alloc, "ab", "du")?;
+    state.typed = Text::from_str(alloc, "z")?;
+    let flags = judged(alloc, Tag::Input, &attrs, state, "")?;
+    check(rt, flags, edited.trim_ascii(), row);
+    Ok(())
+}
 
 #[test]
 fn states(rt: HostRuntime) -> Result<(), Fail> {
     let alloc = rt.alloc();
-    for (kind, missing, edited) in STATES {
-        let attrs = format!(in alloc; "{kind} required")?;
-        let flags = judged(alloc, Tag::Input, &attrs, state_of(alloc, "", "")?, "")?;
-        check(&rt, flags, missing, kind);
-        let attrs = format!(in alloc; "{kind} maxlength=1 minlength=3 pattern=x")?;
-        let mut state = state_of(alloc, "ab", "du")?;
-        state.typed = Text::from_str(alloc, "z")?;
-        let flags = judged(alloc, Tag::Input, &attrs, state, "")?;
-        check(&rt, flags, edited, kind);
+    for row in STATES.lines() {
+        check_state(&rt, alloc, row)?;
     }
     Ok(())
 }
@@ -210,14 +224,6 @@ type=week step=2 | 1970-W02 | x
 type=time | 10:00:30 | x
 type=time step=30 | 10:00:30 |
 type=datetime-local | 2024-01-01T00:00:01 | x";
-
-// The first cell of a row, and the cells behind it.
-fn cell(row: &str) -> (&str, &str) {
-    match row.split_once('|') {
-        Some((first, rest)) => (first.trim_ascii(), rest),
-        None => (row.trim_ascii(), ""),
-    }
-}
 
 fn check_value(rt: &impl Abort, alloc: Global, row: &str) -> Result<(), Fail> {
     let (attrs, rest) = cell(row);

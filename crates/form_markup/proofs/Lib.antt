@@ -3,12 +3,9 @@ pub mod Laws
 pub mod Found
 pub mod Shorter
 pub mod Comments
-pub mod Boundaries
-pub mod Many
 pub mod Once
 pub mod Going
-pub mod Kept
-pub mod Numbers
+pub mod Tags
 pub mod Elements
 pub mod Order
 pub mod Sound

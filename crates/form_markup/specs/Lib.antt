@@ -1,10 +1,7 @@
-pub mod Bytes
 pub mod Names
 pub mod Contents
 pub mod Faults
 pub mod Pieces
-pub mod Runs
-pub mod Kept
 pub mod Tags
 pub mod Spelling
 pub mod Machine

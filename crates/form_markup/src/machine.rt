@@ -9,15 +9,16 @@ ghost use Rattle.form_markup.specs.Contents.{Piece};
 ghost use Rattle.form_markup.specs.Faults.{element_fault, end_fault, fault_of, is_child_of, is_email, is_in_itself, is_inside, is_misplaced, is_odd_in_optgroup, is_odd_in_select, is_over_limit, is_stray_optgroup, is_stray_option, is_tag, tags_round};
 ghost use Rattle.form_markup.specs.Names.{tag_named};
 ghost use Rattle.form_markup.specs.Pieces.{is_in_textarea};
-ghost use Rattle.form_markup.specs.Machine.{after, chunk_of, closed, level_of, levels_of, more_text, outers_in, parent_of, piece_of, round_of, state, state_of, tagged_of, with_raw};
+ghost use Rattle.form_markup.specs.Machine.{after, closed, level_of, levels_of, more_text, outers_in, parent_of, piece_of, round_of, state, state_of, tagged_of, with_raw};
+ghost use Rattle.form_tokens.specs.Characters.{chunk_of};
 
-use crate::fault::Fault;
 use crate::names::{is_refused, is_textarea, tag_named};
-use crate::piece::{Chunk, Found, Head};
+use crate::piece::{Found, Head};
 use crate::raws::Raws;
 use crate::stack::Stack;
 use crate::{MOST_DEPTH, MOST_ELEMENTS};
 use form_text::{Sequence, Text, eq_ascii_case};
+use form_tokens::{Chunk, Fault};
 use form_tree::{Raw, Tag};
 use std::alloc::{AllocError, Global};
 

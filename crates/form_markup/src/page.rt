@@ -1,18 +1,21 @@
-ghost use Rattle.std.specs.Prelude.{◌≡◌, ◌<◌, ℕ, List, [], IfOk, IfErr, IsUtf8, length};
+ghost use Rattle.std.specs.Prelude.{◌≡◌, ◌<◌, ℕ, List, [], Err, IfOk, IfErr, IsUtf8, length};
+ghost use Rattle.form_markup.specs.declared.fault.PageFault.TheVariants.{Memory};
 ghost use Rattle.form_tree.specs.declared.node.Raw.{Raw};
 ghost use Rattle.form_tree.specs.declared.node.Tag.{Tag};
-ghost use Rattle.form_markup.specs.declared.fault.Fault.{Fault};
+ghost use Rattle.form_tokens.specs.declared.fault.Fault.{Fault};
 ghost use Rattle.form_markup.specs.Spelling.{GivesRaws, IsFault, IsPageFault, IsRead, Spells};
 ghost use Rattle.form_tree.specs.Tree.{IsTreeOfRaws};
 ghost use Rattle.form_markup.specs.Answer.{Answers, answer_of};
 ghost use Rattle.form_markup.specs.Limits.{HoldsNoEmail, IsWithinLimits};
-ghost use Rattle.form_markup.specs.Machine.{Gives, state_of, turn};
+ghost use Rattle.form_tokens.specs.Readers.{Gives};
+ghost use Rattle.form_markup.specs.Machine.{state_of, turn};
 
 use crate::PageFault;
-use crate::fault::{Stop, fault_at};
+use crate::fault::fault_at;
 use crate::machine::Machine;
 use crate::raws::Raws;
 use crate::reading::piece_in;
+use form_tokens::Stop;
 use form_tree::{Raw, Tag};
 use std::alloc::Global;
 
@@ -102,7 +105,7 @@ pub fn read(alloc: Global, text: &str) -> Result<Vec<Raw>, PageFault>
 }
 
 /// A law: a text spells one list at most, or has one fault, and not both; its answer is the one or the
-/// other.
+/// other, and never that memory was refused.
 pub fn one_answer()
     ensures list { (around : List Tag) (text : List ℕ) (xs ys : List Raw)
         → Spells around text xs → Spells around text ys → xs ≡ ys }
@@ -112,4 +115,6 @@ pub fn one_answer()
         → Spells around text raws → IsFault around text kind place → ⊥ }
     ensures answer { (around : List Tag) (text : List ℕ)
         → IsRead around text (answer_of around text) }
+    ensures never { (around : List Tag) (text : List ℕ)
+        → answer_of around text ≡ Err Memory → ⊥ }
 {}

@@ -1,16 +1,17 @@
 // The pieces of a text.
 ghost use Rattle.std.specs.Prelude.{◌≡◌, ◌≤◌, ◌&&◌, nat_eq, codes, length, Err, if◌then◌else◌};
 ghost use Rattle.std.specs.List.{prefix_len, starts_with};
-ghost use Rattle.form_markup.specs.Machine.{Gives, piece_of};
+ghost use Rattle.form_tokens.specs.Readers.{Gives};
+ghost use Rattle.form_markup.specs.Machine.{piece_of};
 ghost use Rattle.form_markup.specs.Pieces.{behind_ignored, behind_tag, characters_at, comment_at, comment_len, doctype_at, end_at, end_tag_at, ignored_at, is_before_end, is_doctype, piece_at, raw_at, start_at, tag_at, tag_end, tag_piece};
 ghost use Rattle.form_markup.specs.Tags.{start_kept, tag_kept};
 
-use crate::attributes::{Attributes, attributes_of};
-use crate::characters::{chunk_of, closes_textarea};
-use crate::cursor::{after_byte, begins, begins_letter, behind_space, run_of};
-use crate::fault::{Fault, Stop};
 use crate::names::{is_textarea, is_void};
-use crate::piece::{Class, Context, Found, Head};
+use crate::piece::{Found, Head};
+use form_tokens::{
+    Attributes, Class, Context, Fault, Stop, after_byte, attributes_of, begins, begins_letter,
+    behind_space, chunk_of, closes_textarea, run_of,
+};
 use memchr::memchr;
 use std::alloc::Global;
 

@@ -11,3 +11,4 @@ pub mod Order
 pub mod Sound
 pub mod Texts
 pub mod AnswerLaws
+pub mod Words

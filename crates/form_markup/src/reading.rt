@@ -1,9 +1,9 @@
 // The pieces of a text.
-ghost use Rattle.std.specs.Prelude.{◌≡◌, ◌≤◌, ◌&&◌, nat_eq, codes, length, Err, if◌then◌else◌};
+ghost use Rattle.std.specs.Prelude.{◌≡◌, ◌≤◌, ◌-◌, ◌&&◌, nat_eq, nat_le, codes, drop, length, Err, if◌then◌else◌};
 ghost use Rattle.std.specs.List.{prefix_len, starts_with};
 ghost use Rattle.form_tokens.specs.Readers.{Gives};
 ghost use Rattle.form_markup.specs.Machine.{piece_of};
-ghost use Rattle.form_markup.specs.Pieces.{behind_ignored, behind_tag, characters_at, comment_at, comment_len, doctype_at, end_at, end_tag_at, ignored_at, is_before_end, is_doctype, piece_at, raw_at, start_at, tag_at, tag_end, tag_piece};
+ghost use Rattle.form_markup.specs.Pieces.{behind_ignored, behind_tag, characters_at, comment_at, comment_end, comment_len, doctype_at, end_at, end_tag_at, ignored_at, is_before_end, is_doctype, piece_at, raw_at, start_at, tag_at, tag_end, tag_piece};
 ghost use Rattle.form_markup.specs.Tags.{start_kept, tag_kept};
 
 use crate::names::{is_textarea, is_void};
@@ -88,15 +88,42 @@ fn end_of(text: &str) -> Result<(Found<'_>, &str), Stop>
     Ok((Found::End(name), rest))
 }
 
+// How many bytes stand before the first `>`.
+fn before_end(bytes: &[u8]) -> usize
+    ensures value { result ≡ prefix_len is_before_end bytes.now }
+    ensures bound { result ≤ length bytes.now }
+{
+    match memchr(b'>', bytes) {
+        Some(place) => place,
+        None => bytes.len(),
+    }
+}
+
+// Whether a comment ends with the byte at the place.
+fn ends_with(bytes: &[u8], place: usize) -> bool
+    requires { place ≤ length bytes.now }
+    ensures { result
+        ≡ (nat_le 2 place && starts_with nat_eq (drop (place - 2) bytes.now) comment_end) }
+{
+    if place < 2 {
+        return false;
+    }
+    let (_, end) = bytes.split_at(place - 2);
+    end.starts_with(b"-->")
+}
+
 // How many bytes there are to behind the first `-->`.
 fn comment_len(bytes: &[u8]) -> Option<usize>
     ensures { result ≡ comment_len bytes.now }
 {
-    for i in 0..bytes.len() {
-        let (_, rest) = bytes.split_at(i);
-        if rest.starts_with(b"-->") {
-            return Some(i + 3);
+    let mut done = 0;
+    'ends: while done < bytes.len() {
+        let (_, rest) = bytes.split_at(done);
+        let place = done + before_end(rest);
+        if ends_with(bytes, place) {
+            return Some(place + 1);
         }
+        done = place + 1;
     }
     None
 }
@@ -130,17 +157,6 @@ fn comment_of(text: &str) -> Result<(Found<'_>, &str), Stop>
         return Err(Stop::At(Fault::Lexical));
     }
     behind_comment(text)
-}
-
-// How many bytes stand before the first `>`.
-fn before_end(bytes: &[u8]) -> usize
-    ensures value { result ≡ prefix_len is_before_end bytes.now }
-    ensures bound { result ≤ length bytes.now }
-{
-    match memchr(b'>', bytes) {
-        Some(place) => place,
-        None => bytes.len(),
-    }
 }
 
 // What stands behind `<!doctype`.

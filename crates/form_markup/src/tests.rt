@@ -279,6 +279,27 @@ fn other_faults(rt: HostRuntime) {
     }
 }
 
+// Each kind of fault where it can stand last: in the last piece, or at the text's end.
+#[test]
+fn last_faults(rt: HostRuntime) {
+    for (text, want) in [
+        ("<p>a</p>\u{0}", "lexical 8"),
+        ("<p>a</p>&#0;", "lexical 8"),
+        ("<p>a</p><", "lexical 8"),
+        ("<p>a</p><br", "lexical 8"),
+        ("<p>a</p><!-- -", "lexical 8"),
+        ("<p>a</p><!doctype", "lexical 8"),
+        ("<p>a</p><title>", "element 8"),
+        ("<p>a</p><input type=email>", "email 8"),
+        ("<p>a</p></p>", "nesting 8"),
+        ("<p>a</p><option>", "nesting 8"),
+        ("<p>a</p><b>", "nesting 11"),
+        ("<p>a</p><textarea>&lt;", "nesting 22"),
+    ] {
+        assert!(rt; gives(rt.alloc(), text, want), "{text}");
+    }
+}
+
 #[test]
 fn inside_elements(rt: HostRuntime) {
     for (text, around, want) in [
@@ -343,6 +364,12 @@ fn limits(rt: HostRuntime) -> Result<(), Fail> {
     assert!(rt; gives(alloc, &attrs, "- other a=\"b\" '';"));
     let many = repeated(alloc, "x<iframe", " a", MOST_ATTRIBUTES + 1, ">")?;
     assert!(rt; gives(alloc, &many, "limit 1"));
+    let full = repeated(alloc, "<input", " a=b", MOST_ATTRIBUTES - 1, " type=email>")?;
+    assert!(rt; gives(alloc, &full, "email 0"));
+    let past = repeated(alloc, "<input", " a=b", MOST_ATTRIBUTES, " type=email>")?;
+    assert!(rt; gives(alloc, &past, "limit 0"));
+    let last = repeated(alloc, "<p>a</p><br a='", "x", MOST_VALUE + 1, "'>")?;
+    assert!(rt; gives(alloc, &last, "limit 8"));
     let value = repeated(alloc, "<br a='", "&amp;", MOST_VALUE, "'>")?;
     assert!(rt; has_elements(alloc, &value, 1));
     let long = repeated(alloc, "<br b a='", "x", MOST_VALUE + 1, "'>")?;

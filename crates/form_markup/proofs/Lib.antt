@@ -12,3 +12,4 @@ pub mod Sound
 pub mod Texts
 pub mod AnswerLaws
 pub mod Words
+pub mod Turns

@@ -5,5 +5,6 @@ pub mod Pieces
 pub mod Tags
 pub mod Spelling
 pub mod Machine
+pub mod Turns
 pub mod Limits
 pub mod Answer

@@ -1,9 +1,8 @@
 -- What the reader has read, one piece after another.
-use Rattle.std.specs.Prelude.{ℕ, map, zero, suc, List, [], ◌∷◌, ◌++◌, Option, Some, None, length, Result, Ok, Err}
+use Rattle.std.specs.Prelude.{ℕ, string_bytes, map, zero, suc, List, [], ◌∷◌, ◌++◌, Option, Some, None, length, Result, Ok, Err}
 use Rattle.form_markup.specs.Contents.{Tagged, Piece, Start, Void, Oversized, End, Characters, Ignored, raw_of}
 use Rattle.form_markup.specs.Names.{tag_named}
 use Rattle.form_markup.specs.Faults.{Outer, fault_of, tags_round}
-use Rattle.form_tokens.specs.Characters.{chunk_of}
 use Rattle.form_tokens.specs.Readers.{◌>>=◌}
 use Rattle.form_markup.specs.Pieces.{piece_in}
 use Rattle.form_tokens.specs.declared.fault.Fault.{Fault}
@@ -25,7 +24,6 @@ piece_of (found.Start head) = Start (tagged_of head)
 piece_of (found.Void head) = Void (tagged_of head)
 piece_of found.Oversized = Oversized
 piece_of (found.End name) = End name.now
-piece_of (found.Characters chunk) = Characters (chunk_of chunk)
 piece_of found.Ignored = Ignored
 
 -- ---- the open elements and the elements so far
@@ -43,7 +41,7 @@ pub record State : Type 0 where
   pub raws : List Raw
 
 abbrev pub level_of : Open → Level
-level_of o = record { place = o.place; tag = o.tag; name = o.name.now; text = o.text }
+level_of o = record { place = o.place; tag = o.tag; name = o.name.now; text = string_bytes o.text }
 
 abbrev pub levels_of : List Open → List Level
 levels_of os = map level_of os

@@ -29,7 +29,7 @@ pub struct Open<'a> {
     pub place: usize,
     pub tag: Tag,
     pub name: &'a str,
-    pub text: Text,
+    pub text: String,
 }
 
 /// What was read so far: the elements that are open, and all elements, of which the open ones have
@@ -253,7 +253,6 @@ impl<'a> Machine<'a> {
             Found::Void(head) => self.element_fault(around, head),
             Found::Oversized => Some(Fault::Limit),
             Found::End(name) => self.end_fault(name),
-            Found::Characters(_) => None,
             Found::Ignored => None,
         }
     }
@@ -290,7 +289,7 @@ impl<'a> Machine<'a> {
             place: self.raws.len(),
             tag: tag_named(head.name),
             name: head.name,
-            text: Text::from_string(String::new(alloc)),
+            text: String::new(alloc),
         };
         self.add_raw(alloc, head)?;
         self.stack.push(open)?;
@@ -301,34 +300,16 @@ impl<'a> Machine<'a> {
         ensures { state_of self.new ≡ closed (levels_of self.old.stack) self.old.raws }
     {
         if let Some(open) = self.stack.pop() {
-            self.raws.set_text(open.place, open.text);
+            self.raws.set_text(open.place, Text::from_string(open.text));
         }
     }
 
-    fn add_text(&mut self, chunk: Chunk<'_>) -> Result<(), AllocError>
+    /// Takes characters, which belong to the innermost open element.
+    pub fn add_text(&mut self, chunk: Chunk<'_>) -> Result<(), AllocError>
         ensures { OnOk result (state_of self.new
             ≡ state (more_text (chunk_of chunk.entry) (levels_of self.old.stack)) self.old.raws) }
     {
-        match self.stack.pop() {
-            Some(open) => {
-                let Open {
-                    place,
-                    tag,
-                    name,
-                    text,
-                } = open;
-                let mut text = text.into_string();
-                chunk.write(&mut text)?;
-                self.stack.push(Open {
-                    place,
-                    tag,
-                    name,
-                    text: Text::from_string(text),
-                })?;
-                Ok(())
-            }
-            None => Ok(()),
-        }
+        self.stack.write(chunk)
     }
 
     /// Takes a piece.
@@ -344,7 +325,6 @@ impl<'a> Machine<'a> {
                 self.end();
                 Ok(())
             }
-            Found::Characters(chunk) => self.add_text(chunk),
             Found::Ignored => Ok(()),
         }
     }

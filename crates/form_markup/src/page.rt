@@ -8,19 +8,100 @@ ghost use Rattle.form_tree.specs.Tree.{IsTreeOfRaws};
 ghost use Rattle.form_markup.specs.Answer.{Answers, answer_of};
 ghost use Rattle.form_markup.specs.Limits.{HoldsNoEmail, IsWithinLimits};
 ghost use Rattle.form_tokens.specs.Readers.{Gives};
-ghost use Rattle.form_markup.specs.Machine.{state_of, turn};
+ghost use Rattle.form_markup.specs.Machine.{outers_in, state_of, turn};
+ghost use Rattle.form_markup.specs.Turns.{inside_turn, outside_turn, tag_turn, text_turn};
 
 use crate::PageFault;
 use crate::fault::fault_at;
 use crate::machine::Machine;
 use crate::raws::Raws;
-use crate::reading::piece_in;
-use form_tokens::Stop;
+use crate::reading::tag_of;
+use form_tokens::{Context, Stop, after_byte, begins, chunk_of, closes_textarea};
 use form_tree::{Raw, Tag};
 use std::alloc::Global;
 
+// Takes the tag, comment or doctype at the front of the text, and gives what stands behind it.
+#[tactic(auto, unfolding(crate::specs::Turns::tag_turn))]
+fn take_tag<'a>(
+    machine: &mut Machine<'a>,
+    alloc: Global,
+    around: &[Tag],
+    text: &'a str,
+) -> Result<&'a str, Stop>
+    ensures turn { Gives (λ rest. (state_of machine.new, rest.now)) result
+        (tag_turn around.now (state_of machine.old) text.now) }
+    ensures utf8 { IfOk result (λ rest. IsUtf8 rest.now) }
+{
+    let rest = after_byte(text, b'<')?;
+    match tag_of(alloc, rest) {
+        Ok((piece, rest)) => {
+            if let Some(fault) = machine.fault_of(around, &piece) {
+                return Err(Stop::At(fault));
+            }
+            machine.take(alloc, piece)?;
+            Ok(rest)
+        }
+        Err(stop) => Err(stop),
+    }
+}
+
+// Takes the characters or the reference at the front of the text, and gives what stands behind.
+#[tactic(auto, unfolding(crate::specs::Turns::text_turn))]
+fn take_text<'a>(
+    machine: &mut Machine<'_>,
+    context: Context,
+    text: &'a str,
+) -> Result<&'a str, Stop>
+    ensures turn { Gives (λ rest. (state_of machine.new, rest.now)) result
+        (text_turn context (state_of machine.old) text.now) }
+    ensures utf8 { IfOk result (λ rest. IsUtf8 rest.now) }
+{
+    match chunk_of(context, text) {
+        Ok((chunk, rest)) => {
+            machine.add_text(chunk)?;
+            Ok(rest)
+        }
+        Err(stop) => Err(stop),
+    }
+}
+
+// Takes the piece at the front of the text where no textarea is open.
+fn advance_outside<'a>(
+    machine: &mut Machine<'a>,
+    alloc: Global,
+    around: &[Tag],
+    text: &'a str,
+) -> Result<&'a str, Stop>
+    ensures turn { Gives (λ rest. (state_of machine.new, rest.now)) result
+        (outside_turn around.now (state_of machine.old) text.now) }
+    ensures utf8 { IfOk result (λ rest. IsUtf8 rest.now) }
+{
+    if begins(text, b'<') {
+        take_tag(machine, alloc, around, text)
+    } else {
+        take_text(machine, Context::Content, text)
+    }
+}
+
+// Takes the piece at the front of a textarea's text.
+fn advance_inside<'a>(
+    machine: &mut Machine<'a>,
+    alloc: Global,
+    around: &[Tag],
+    text: &'a str,
+) -> Result<&'a str, Stop>
+    ensures turn { Gives (λ rest. (state_of machine.new, rest.now)) result
+        (inside_turn around.now (state_of machine.old) text.now) }
+    ensures utf8 { IfOk result (λ rest. IsUtf8 rest.now) }
+{
+    if closes_textarea(text.as_bytes()) {
+        take_tag(machine, alloc, around, text)
+    } else {
+        take_text(machine, Context::Textarea, text)
+    }
+}
+
 // Takes the piece at the front of the text, and gives what stands behind it.
-#[tactic(auto, unfolding(crate::specs::Machine::turn))]
 fn advance<'a>(
     machine: &mut Machine<'a>,
     alloc: Global,
@@ -31,16 +112,10 @@ fn advance<'a>(
         (turn around.now (state_of machine.old) text.now) }
     ensures utf8 { IfOk result (λ rest. IsUtf8 rest.now) }
 {
-    let is_raw = machine.is_in_textarea();
-    match piece_in(alloc, is_raw, text) {
-        Ok((piece, rest)) => {
-            if let Some(fault) = machine.fault_of(around, &piece) {
-                return Err(Stop::At(fault));
-            }
-            machine.take(alloc, piece)?;
-            Ok(rest)
-        }
-        Err(stop) => Err(stop),
+    if machine.is_in_textarea() {
+        advance_inside(machine, alloc, around, text)
+    } else {
+        advance_outside(machine, alloc, around, text)
     }
 }
 

@@ -1,7 +1,6 @@
 ghost use Rattle.std.specs.Prelude.{◌≡◌};
 
 use form_text::{Sequence, Text};
-use form_tokens::Chunk;
 
 /// A start tag or the tag of a void element: the element's name as it is written, and of the
 /// attributes of each name the first.
@@ -11,7 +10,7 @@ pub struct Head<'a> {
     pub attrs: Sequence<(Text, Text)>,
 }
 
-/// A piece of the text, as the reader finds it.
+/// A piece of the text that begins with `<`, as the reader finds it.
 #[derive(Drop)]
 pub enum Found<'a> {
     Start(Head<'a>),
@@ -20,7 +19,6 @@ pub enum Found<'a> {
     Oversized,
     /// An end tag, with its name as it is written.
     End(&'a str),
-    Characters(Chunk<'a>),
     /// A comment or a doctype.
     Ignored,
 }

@@ -1,15 +1,15 @@
 // What the reader has read, and which fault the next piece has.
-ghost use Rattle.std.specs.Prelude.{◌≡◌, [], ◌∷◌, ◌++◌, ◌||◌, ◌&&◌, List, map, reverse, nat_le, length, IfOk, OnOk, Some, None, MatchOption, codes, not};
+ghost use Rattle.std.specs.Prelude.{◌≡◌, [], ◌∷◌, ◌||◌, ◌&&◌, List, reverse, length, OnOk, Some, None, MatchOption, not};
 ghost use Rattle.std.specs.List.{list_any};
 ghost use Rattle.std.specs.Option.{option_copied, option_map};
 ghost use Rattle.form_tree.specs.Tree.{attr_in};
 ghost use Rattle.form_tree.specs.declared.node.Tag.{Tag};
 ghost use Rattle.form_types.specs.TypeTable.{names_email};
 ghost use Rattle.form_markup.specs.Contents.{Piece};
-ghost use Rattle.form_markup.specs.Faults.{element_fault, end_fault, fault_of, is_child_of, is_email, is_in_itself, is_inside, is_misplaced, is_odd_in_optgroup, is_odd_in_select, is_over_limit, is_stray_optgroup, is_stray_option, is_tag, tags_round};
+ghost use Rattle.form_markup.specs.Faults.{element_fault, end_fault, fault_of, is_child_of, is_email, is_in_itself, is_inside, is_misplaced, is_odd_in_optgroup, is_odd_in_select, is_over_limit, is_stray_optgroup, is_stray_option, is_tag};
 ghost use Rattle.form_markup.specs.Names.{tag_named};
 ghost use Rattle.form_markup.specs.Pieces.{is_in_textarea};
-ghost use Rattle.form_markup.specs.Machine.{after, closed, level_of, levels_of, more_text, outers_in, parent_of, piece_of, round_of, state, state_of, tagged_of, with_raw};
+ghost use Rattle.form_markup.specs.Machine.{after, closed, levels_of, more_text, outers_in, parent_of, piece_of, round_of, state, state_of, tagged_of, with_raw};
 ghost use Rattle.form_tokens.specs.Characters.{chunk_of};
 
 use crate::names::{is_refused, is_textarea, tag_named};

@@ -1,4 +1,4 @@
-ghost use Rattle.std.specs.Prelude.{◌≡◌, ◌<◌, ℕ, List, [], Err, IfOk, IfErr, IsUtf8, length};
+ghost use Rattle.std.specs.Prelude.{◌≡◌, ◌<◌, ℕ, List, [], Err, IfOk, IfErr, IsUtf8};
 ghost use Rattle.form_markup.specs.declared.fault.PageFault.TheVariants.{Memory};
 ghost use Rattle.form_tree.specs.declared.node.Raw.{Raw};
 ghost use Rattle.form_tree.specs.declared.node.Tag.{Tag};
@@ -8,7 +8,7 @@ ghost use Rattle.form_tree.specs.Tree.{IsTreeOfRaws};
 ghost use Rattle.form_markup.specs.Answer.{Answers, answer_of};
 ghost use Rattle.form_markup.specs.Limits.{HoldsNoEmail, IsWithinLimits};
 ghost use Rattle.form_tokens.specs.Readers.{Gives};
-ghost use Rattle.form_markup.specs.Machine.{outers_in, state_of, turn};
+ghost use Rattle.form_markup.specs.Machine.{state_of, turn};
 ghost use Rattle.form_markup.specs.Turns.{inside_turn, outside_turn, tag_turn, text_turn};
 
 use crate::PageFault;

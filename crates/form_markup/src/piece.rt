@@ -1,5 +1,3 @@
-ghost use Rattle.std.specs.Prelude.{◌≡◌};
-
 use form_text::{Sequence, Text};
 
 /// A start tag or the tag of a void element: the element's name as it is written, and of the

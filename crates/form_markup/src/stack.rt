@@ -1,4 +1,4 @@
-ghost use Rattle.std.specs.Prelude.{List, ◌≡◌, [], ◌∷◌, OnOk, MatchOption, reverse, length, option_copied, option_map};
+ghost use Rattle.std.specs.Prelude.{List, ◌≡◌, [], ◌∷◌, OnOk, MatchOption, reverse, length};
 ghost use Rattle.form_tokens.specs.Characters.{chunk_of};
 ghost use Rattle.form_markup.specs.Machine.{levels_of, more_text};
 

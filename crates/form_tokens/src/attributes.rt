@@ -1,5 +1,5 @@
 // The attributes of a tag.
-ghost use Rattle.std.specs.Prelude.{◌≡◌, ◌++◌, ◌<◌, IfOk, OnOk, IsUtf8};
+ghost use Rattle.std.specs.Prelude.{◌≡◌, ◌<◌, IfOk, OnOk, IsUtf8};
 ghost use Rattle.std.specs.List.{list_any};
 ghost use Rattle.form_tree.specs.Tree.{is_named};
 ghost use Rattle.form_tokens.specs.Readers.{Gives};
@@ -7,9 +7,9 @@ ghost use Rattle.form_tokens.specs.Kept.{added, kept_at, no_attributes};
 ghost use Rattle.form_tokens.specs.Attributes.{attribute_at, quoted_at, value_at, value_if_there};
 
 use crate::characters::decode;
+use crate::class::Class;
 use crate::cursor::{after_byte, begins, begins_attribute, behind_space, run_of, split_run};
 use crate::fault::Stop;
-use crate::class::Class;
 use crate::{MOST_ATTRIBUTES, MOST_VALUE};
 use form_text::{Sequence, Text};
 use std::alloc::{AllocError, Global};

@@ -1,18 +1,15 @@
 // Characters as they are written, and references.
-ghost use Rattle.std.specs.Prelude.{◌≡◌, ◌==◌, ◌≤◌, ◌+◌, ◌&&◌, ◌||◌, not, drop, length, false, IfOk, IsUtf8, OnOk, ◌++◌, string_bytes};
+ghost use Rattle.std.specs.Prelude.{◌≡◌, ◌==◌, ◌≤◌, ◌+◌, ◌&&◌, ◌||◌, drop, length, false, IfOk, IsUtf8};
 ghost use Rattle.std.specs.List.{prefix_len};
 ghost use Rattle.form_tokens.specs.Readers.{Gives};
-ghost use Rattle.form_tokens.specs.Characters.{chunk_of};
+ghost use Rattle.form_tokens.specs.Characters.{chunk_of, ends_name, begins_shown, chunk_at, closes_textarea, decoded, is_reference, is_shown_angle, shown_at, shown_len, is_plain};
 ghost use Rattle.form_tokens.specs.Runs.{begins, begins_so};
-ghost use Rattle.form_tokens.specs.Characters.{ends_name, begins_shown, chunk_at, closes_textarea, decoded, is_reference, is_shown_angle, shown_at, shown_len};
 ghost use Rattle.form_tokens.specs.References.{begins_named, begins_reference};
-ghost use Rattle.form_tokens.specs.Characters.{is_plain};
-ghost use Rattle.form_tokens.specs.declared.chunk.Context.TheVariants as contexts;
 
-use crate::cursor::{after_byte, run_len};
-use crate::fault::{Fault, Stop};
 use crate::chunk::{Chunk, Context};
 use crate::class::Class;
+use crate::cursor::{after_byte, run_len};
+use crate::fault::{Fault, Stop};
 use crate::references::reference_of;
 use form_text::Text;
 use memchr::memchr3;

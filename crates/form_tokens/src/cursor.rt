@@ -1,9 +1,8 @@
 // Small readers of the front of a text.
-ghost use Rattle.std.specs.Prelude.{◌≡◌, ◌≤◌, ◌<◌, ◌&&◌, length, take, drop, ◌==◌};
-ghost use Rattle.std.specs.List.{prefix_len};
+ghost use Rattle.std.specs.Prelude.{◌≡◌, ◌≤◌, ◌<◌, length, take, drop, ◌==◌};
 ghost use Rattle.std.specs.Char.{is_ascii_alphabetic};
 ghost use Rattle.form_tokens.specs.Readers.{Gives};
-ghost use Rattle.form_tokens.specs.Runs.{IsLow, behind, behind_space, begins, begins_so, ends_attribute_name, ends_unquoted, in_class, is_space, run_at, run_len};
+ghost use Rattle.form_tokens.specs.Runs.{IsLow, behind, behind_space, begins, begins_so, in_class, run_at, run_len};
 ghost use Rattle.form_tokens.specs.Attributes.{begins_attribute};
 ghost use Rattle.form_tokens.specs.declared.class.Class.TheVariants as classes;
 

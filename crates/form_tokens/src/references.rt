@@ -1,13 +1,13 @@
 // References to characters.
-ghost use Rattle.std.specs.Prelude.{◌≡◌, ◌≤◌, ◌||◌};
+ghost use Rattle.std.specs.Prelude.{◌≤◌, ◌||◌};
 ghost use Rattle.std.specs.Str.Parse.{IsNumeral, digits_value};
 ghost use Rattle.form_tokens.specs.Readers.{Gives};
 ghost use Rattle.form_tokens.specs.References.{character, named, named_at, number_at, numeric_at, reference_at};
 ghost use Rattle.form_tokens.specs.declared.class.Class.TheVariants as classes;
 
+use crate::class::Class;
 use crate::cursor::{after_byte, begins, run_of};
 use crate::fault::{Fault, Stop};
-use crate::class::Class;
 
 // The character of a number that digits write.
 fn character_of(digits: &str, radix: u32) -> Result<char, Stop>

@@ -1,16 +1,12 @@
 -- What is kept of attributes, one after another, is what the definitions say of all of them.
-use Rattle.std.proofs.Common.{◌≡◌, ℕ, ◌+◌, ◌||◌, nat_lt, nat_le, List, [], ◌∷◌, ◌++◌, Bool, true, false, Result, Ok, Err, length, refl, sym, ap, subst, ◌∙◌, arith, append_assoc, append-nil, length-append, if◌then◌else◌}
+use Rattle.std.proofs.Common.{◌≡◌, ℕ, ◌+◌, ◌||◌, nat_lt, nat_le, List, [], ◌∷◌, ◌++◌, Bool, true, false, length, refl, sym, ap, subst, ◌∙◌, arith, append_assoc, append-nil, length-append, if◌then◌else◌}
 use Rattle.std.specs.List.{list_any}
 use Rattle.std.proofs.lemmas.Bool.Decides.{nat_tests}
 use Rattle.form_tree.specs.Tree.{is_named}
 use Rattle.form_tokens.specs.Kept.{added, all_added, attributes, kept_of, kept_with, no_attributes}
-use Rattle.form_tokens.specs.Readers.{◌>>=◌}
-use Rattle.form_tokens.specs.Attributes.{attributes_at, firsts_behind, is_long, is_oversized}
-use Rattle.form_tokens.specs.Runs.{behind_space, run_at}
+use Rattle.form_tokens.specs.Attributes.{firsts_behind, is_long, is_oversized}
 use Rattle.form_tokens.specs.declared.TheConstants.{MOST_ATTRIBUTES}
 use Rattle.form_tokens.specs.declared.attributes.Attributes.{Attributes}
-use Rattle.form_tokens.specs.declared.fault.Fault.{Fault}
-use Rattle.form_tokens.specs.declared.class.Class.TheVariants as classes
 
 abbrev pub Attr : Type 0
 Attr = List ℕ × List ℕ

@@ -1,21 +1,19 @@
 -- A piece takes at least one byte.
-use Rattle.std.proofs.Common.{◌≡◌, ℕ, zero, suc, ◌<◌, ◌≤◌, List, [], ◌∷◌, length, take, drop, Option, Some, None, Result, Ok, Err, Bool, true, false, refl, subst, arith, length-drop, if◌then◌else◌, nat_lt, nat_eq, codes, ◌==◌, ◌&&◌}
-use Rattle.std.specs.Char.{encode_utf8, is_ascii_alphabetic}
-use Rattle.std.specs.List.{prefix_len, starts_with}
+use Rattle.std.proofs.Common.{◌≡◌, ℕ, zero, suc, ◌<◌, ◌≤◌, List, [], ◌∷◌, length, take, drop, Result, Ok, Err, Bool, true, false, refl, subst, arith, length-drop, if◌then◌else◌, nat_lt, ◌==◌}
+use Rattle.std.specs.Char.{encode_utf8}
 use Rattle.std.specs.Str.Parse.{digits_value}
 use Rattle.std.proofs.lemmas.Bool.{ltb-true}
 use Rattle.std.proofs.lemmas.List.Sums.{prefix_len-le-length}
 use Rattle.form_tokens.specs.Readers.{◌>>=◌, many}
-use Rattle.form_tokens.specs.Attributes.{attribute_at, attributes_at, begins_attribute, quoted_at, value_at, value_if_there}
-use Rattle.form_tokens.specs.Runs.{begins, begins_so, behind, behind_space, in_class, run_at, run_len}
-use Rattle.form_tokens.specs.Characters.{begins_shown, chunk_at, closes_textarea, decoded, is_reference, shown_at, shown_len}
+use Rattle.form_tokens.specs.Attributes.{attribute_at, quoted_at, value_at, value_if_there}
+use Rattle.form_tokens.specs.Runs.{begins, behind, behind_space, in_class, run_at, run_len}
+use Rattle.form_tokens.specs.Characters.{begins_shown, chunk_at, decoded, is_reference, shown_at, shown_len}
 use Rattle.form_tokens.specs.References.{character, named, named_at, number_at, numeric_at, reference_at}
 use Rattle.form_tokens.specs.declared.fault.Fault.{Fault}
 use Rattle.form_tokens.specs.declared.fault.Fault.TheVariants.{Lexical}
 use Rattle.form_tokens.specs.declared.class.Class.{Class}
 use Rattle.form_tokens.specs.declared.class.Class.TheVariants as classes
 use Rattle.form_tokens.specs.declared.chunk.Context.{Context}
-use Rattle.form_tokens.specs.declared.chunk.Context.TheVariants as contexts
 
 -- Whatever a reader gives has P.
 abbrev pub Each : {A : Type 0} → (A → Type 0) → Result A Fault → Type 0

@@ -1,11 +1,7 @@
 -- Characters that are passed over at once.
-use Rattle.std.proofs.Common.{◌≡◌, ℕ, suc, ◌+◌, ◌<◌, List, [], ◌∷◌, drop, get_or, map, Bool, true, false, not, cond, refl, ap, subst, ◌∙◌, arith, if◌then◌else◌, ◌==◌, codes, nat_eq}
-use Rattle.std.specs.Char.{to_ascii_lowercase}
-use Rattle.std.specs.List.{prefix_len, starts_with}
-use Rattle.std.specs.Str.{IsUtf8, IsCharBoundary}
+use Rattle.std.proofs.Common.{◌≡◌, ℕ, suc, ◌+◌, List, [], ◌∷◌, drop, Bool, true, false, not, cond, refl, ap, subst, ◌∙◌, arith, if◌then◌else◌, ◌==◌}
+use Rattle.std.specs.List.{prefix_len}
 use Rattle.std.proofs.lemmas.Bool.Decides.{nat_tests}
-use Rattle.std.proofs.lemmas.Slice.Eq.{bytes_eq-Decides}
-use Rattle.std.proofs.lemmas.Str.{IsCharBoundary-after_ascii}
 use Rattle.form_tokens.specs.References.{begins_reference}
 use Rattle.form_tokens.specs.Characters.{begins_shown, is_shown_angle, shown_len}
 use Rattle.form_tokens.specs.Characters.{is_plain}

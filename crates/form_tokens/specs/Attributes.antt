@@ -1,7 +1,7 @@
 -- The attributes of a tag.
 use Rattle.std.specs.Char.{to_ascii_lowercase}
 use Rattle.std.specs.List.{list_any}
-use Rattle.std.specs.Prelude.{Bool, List, Ok, Result, [], drop, if◌then◌else◌, length, map, nat_lt, take, ℕ, ◌&&◌, ◌++◌, ◌+◌, ◌||◌, ◌∷◌}
+use Rattle.std.specs.Prelude.{Bool, List, Ok, Result, [], drop, if◌then◌else◌, length, map, nat_lt, take, ℕ, ◌&&◌, ◌++◌, ◌||◌, ◌∷◌}
 use Rattle.form_text.specs.Bytes.{quote as quotation_mark, quote as quotation_mark, quote as quotation_mark}
 use Rattle.form_tree.specs.Tree.{is_named}
 use Rattle.form_tokens.specs.Bytes.{apostrophe, equals_sign}

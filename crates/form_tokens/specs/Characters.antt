@@ -1,6 +1,6 @@
 -- Characters as they are written, and references, decoded.
 use Rattle.std.specs.Char.{encode_utf8}
-use Rattle.std.specs.Prelude.{Bool, Err, List, Ok, Result, [], codes, drop, false, if◌then◌else◌, length, nat_lt, not, suc, take, true, ℕ, ◌&&◌, ◌++◌, ◌+◌, ◌<◌, ◌==◌, ◌||◌, ◌∷◌}
+use Rattle.std.specs.Prelude.{Bool, Err, List, Ok, Result, [], codes, drop, false, if◌then◌else◌, length, nat_lt, not, suc, take, true, ℕ, ◌&&◌, ◌++◌, ◌==◌, ◌||◌, ◌∷◌}
 use Rattle.std.specs.Str.{str_eq_ignore_ascii_case}
 use Rattle.form_tokens.specs.Bytes.{ampersand, greater_than, less_than, solidus}
 use Rattle.form_tokens.specs.Readers.{many, ◌>>=◌}

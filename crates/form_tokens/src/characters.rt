@@ -83,6 +83,7 @@ fn is_shown_angle(context: Context, bytes: &[u8]) -> bool
 }
 
 // How many bytes stand before the first `<`, `&` or U+0000.
+#[inline(never)]
 fn plain_len(bytes: &[u8]) -> usize
     ensures value { result ≡ prefix_len is_plain bytes.now }
     ensures bound { result ≤ length bytes.now }
@@ -152,6 +153,7 @@ fn is_reference(text: &str) -> bool
 }
 
 /// Characters or a reference at the front, and what stands behind.
+#[inline(always)]
 #[tactic(auto, unfolding(crate::specs::Characters::chunk_at))]
 pub fn chunk_of<'a>(context: Context, text: &'a str) -> Result<(Chunk<'a>, &'a str), Stop>
     ensures value { Gives (λ x. (chunk_of x.0, x.1.now)) result (chunk_at context text.now) }

@@ -20,6 +20,7 @@ pub enum Chunk<'a> {
 
 impl Chunk<'_> {
     /// Writes the characters behind a text.
+    #[inline(always)]
     pub fn write(self, out: &mut String) -> Result<(), AllocError>
         ensures { OnOk result (string_bytes out.new ≡ string_bytes out.old ++ chunk_of self.entry) }
     {

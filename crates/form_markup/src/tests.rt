@@ -279,7 +279,8 @@ fn other_faults(rt: HostRuntime) {
     }
 }
 
-// Each kind of fault where it can stand last: in the last piece, or at the text's end.
+// Each kind of fault where it can stand last: in the last piece, or at the text's end. A limit's rows
+// stand in `limits`.
 #[test]
 fn last_faults(rt: HostRuntime) {
     for (text, want) in [
@@ -364,15 +365,28 @@ fn limits(rt: HostRuntime) -> Result<(), Fail> {
     assert!(rt; gives(alloc, &attrs, "- other a=\"b\" '';"));
     let many = repeated(alloc, "x<iframe", " a", MOST_ATTRIBUTES + 1, ">")?;
     assert!(rt; gives(alloc, &many, "limit 1"));
-    let full = repeated(alloc, "<input", " a=b", MOST_ATTRIBUTES - 1, " type=email>")?;
-    assert!(rt; gives(alloc, &full, "email 0"));
-    let past = repeated(alloc, "<input", " a=b", MOST_ATTRIBUTES, " type=email>")?;
-    assert!(rt; gives(alloc, &past, "limit 0"));
-    let last = repeated(alloc, "<p>a</p><br a='", "x", MOST_VALUE + 1, "'>")?;
-    assert!(rt; gives(alloc, &last, "limit 8"));
     let value = repeated(alloc, "<br a='", "&amp;", MOST_VALUE, "'>")?;
     assert!(rt; has_elements(alloc, &value, 1));
     let long = repeated(alloc, "<br b a='", "x", MOST_VALUE + 1, "'>")?;
     assert!(rt; gives(alloc, &long, "limit 0"));
+    Ok(())
+}
+
+// An email fault and a fault of limits where a tag has all the attributes that it may have.
+#[test]
+fn full_tags(rt: HostRuntime) -> Result<(), Fail> {
+    let alloc = rt.alloc();
+    let full = repeated(alloc, "<input", " a=b", MOST_ATTRIBUTES - 1, " type=email>")?;
+    assert!(rt; gives(alloc, &full, "email 0"));
+    let past = repeated(alloc, "<input", " a=b", MOST_ATTRIBUTES, " type=email>")?;
+    assert!(rt; gives(alloc, &past, "limit 0"));
+    let second = repeated(
+        alloc,
+        "<input type=text",
+        " a=b",
+        MOST_ATTRIBUTES - 2,
+        " type=email>",
+    )?;
+    assert!(rt; gives(alloc, &second, "- input type=\"text\" a=\"b\" '';"));
     Ok(())
 }

@@ -3,13 +3,14 @@ use Rattle.std.proofs.Common.{◌≡◌, ℕ, zero, suc, ◌-◌, ◌<◌, ◌�
 use Rattle.form_tree.specs.declared.node.Raw.{Raw}
 use Rattle.form_tree.specs.declared.node.Tag.{Tag}
 use Rattle.form_markup.specs.Answer.{Answers, answer_of, end_answer, rest_answer, turn_answer}
-use Rattle.form_markup.specs.Machine.{Fails, Level, State, turn}
+use Rattle.form_tokens.specs.Readers.{Fails}
+use Rattle.form_markup.specs.Machine.{Level, State, turn}
 use Rattle.form_markup.specs.Spelling.{IsRead, page_fault}
-use Rattle.form_markup.specs.declared.fault.Fault.{Fault}
-use Rattle.form_markup.specs.declared.fault.Fault.TheVariants as faults
+use Rattle.form_tokens.specs.declared.fault.Fault.{Fault}
+use Rattle.form_tokens.specs.declared.fault.Fault.TheVariants as faults
 use Rattle.form_markup.specs.declared.fault.PageFault.TheVariants as pages
-use Rattle.form_markup.specs.declared.fault.Stop.{Stop}
-use Rattle.form_markup.specs.declared.fault.Stop.TheVariants as stops
+use Rattle.form_tokens.specs.declared.fault.Stop.{Stop}
+use Rattle.form_tokens.specs.declared.fault.Stop.TheVariants as stops
 use Rattle.form_markup.proofs.Going.{Going, begun, ended, failed, gone_on, left_open}
 use Rattle.form_markup.proofs.Once.{fresh}
 
@@ -31,6 +32,30 @@ rest_read (suc n) around text m (b ∷ bs) g le = go (rest_read n around text) (
 pub answer_read : (around : List Tag) (text : List ℕ) → IsRead around text (answer_of around text)
 unfolding answer_of
 answer_read around text = rest_read (length text) around text fresh text (begun around text) (omega arith)
+
+-- the answer of the rest is never that memory was refused
+pub rest_never : (n : ℕ) (around : List Tag) (size : ℕ) (m : State) (rest : List ℕ) → rest_answer n around size m rest ≡ Err pages.Memory → ⊥
+rest_never n around size m [] e = go m.levels e
+  where
+    go : (levels : List Level) → end_answer size levels m.raws ≡ Err pages.Memory → ⊥
+    go [] e = absurd (cc)
+    go (level ∷ levels) e = absurd (cc)
+rest_never zero around size m (b ∷ bs) e = absurd (cc)
+rest_never (suc n) around size m (b ∷ bs) e = go (rest_never n around size) (turn around m (b ∷ bs)) e
+  where
+    go : ((next : State) (rest : List ℕ) → rest_answer n around size next rest ≡ Err pages.Memory → ⊥)
+        → (r : Result (State × List ℕ) Fault) → turn_answer (rest_answer n around size) (size - length (b ∷ bs)) r ≡ Err pages.Memory → ⊥
+    go more (Ok x) h = more x.0 x.1 h
+    go more (Err faults.Lexical) h = absurd (cc)
+    go more (Err faults.Limit) h = absurd (cc)
+    go more (Err faults.Element) h = absurd (cc)
+    go more (Err faults.Email) h = absurd (cc)
+    go more (Err faults.Nesting) h = absurd (cc)
+
+-- the answer of a text is never that memory was refused
+pub answer_never : (around : List Tag) (text : List ℕ) → answer_of around text ≡ Err pages.Memory → ⊥
+unfolding answer_of
+answer_never around text = rest_never (length text) around (length text) fresh text
 
 -- the answer of the rest is that of the text
 pub record Answering (around : List Tag) (text : List ℕ) (m : State) (rest : List ℕ) : Type 0 where

@@ -13,15 +13,19 @@ use Rattle.form_markup.specs.Contents.{Tagged, Piece, Start, Void, Oversized, En
 use Rattle.form_markup.specs.Faults.{Outer, opens, counts, element_fault, is_email, is_misplaced, is_over_limit, is_refused, tags_round, IsFine}
 use Rattle.form_markup.specs.Limits.{IsShort}
 use Rattle.form_markup.specs.Names.{tag_named}
-use Rattle.form_markup.specs.Pieces.{◌>>=◌, attributes_at, begins, begins_so, behind, behind_ignored, behind_space, characters_at, chunk_at, closes_textarea, comment_at, comment_len, doctype_at, end_at, firsts_behind, ignored_at, is_before_end, is_doctype, is_in_textarea, is_long, is_oversized, is_void, piece_at, piece_in, raw_at, run_at, start_at, tag_at, tag_end, tag_piece}
+use Rattle.form_tokens.specs.Readers.{◌>>=◌}
+use Rattle.form_tokens.specs.Attributes.{attributes_at, firsts_behind, is_long, is_oversized}
+use Rattle.form_tokens.specs.Runs.{begins, begins_so, behind, behind_space, run_at}
+use Rattle.form_markup.specs.Pieces.{behind_ignored, characters_at, comment_at, comment_len, doctype_at, end_at, ignored_at, is_before_end, is_doctype, is_in_textarea, is_void, piece_at, piece_in, raw_at, start_at, tag_at, tag_end, tag_piece}
+use Rattle.form_tokens.specs.Characters.{chunk_at, closes_textarea}
 use Rattle.form_markup.specs.Spelling.{IsCut}
-use Rattle.form_markup.specs.declared.TheConstants.{MOST_ATTRIBUTES, MOST_VALUE}
-use Rattle.form_markup.specs.declared.fault.Fault.{Fault}
-use Rattle.form_markup.specs.declared.fault.Fault.TheVariants as faults
-use Rattle.form_markup.specs.declared.piece.Class.TheVariants as classes
-use Rattle.form_markup.specs.declared.piece.Context.{Context}
-use Rattle.form_markup.specs.declared.piece.Context.TheVariants as contexts
-use Rattle.form_markup.proofs.Shorter.{Each, each_at}
+use Rattle.form_tokens.specs.declared.TheConstants.{MOST_ATTRIBUTES, MOST_VALUE}
+use Rattle.form_tokens.specs.declared.fault.Fault.{Fault}
+use Rattle.form_tokens.specs.declared.fault.Fault.TheVariants as faults
+use Rattle.form_tokens.specs.declared.class.Class.TheVariants as classes
+use Rattle.form_tokens.specs.declared.chunk.Context.{Context}
+use Rattle.form_tokens.specs.declared.chunk.Context.TheVariants as contexts
+use Rattle.form_tokens.proofs.Laws.{Each, each_at}
 
 abbrev pub Attr : Type 0
 Attr = List ℕ × List ℕ

@@ -3,7 +3,7 @@ use Rattle.std.proofs.Common.{◌≡◌, ℕ, List, [], ◌∷◌, ◌++◌, Som
 use Rattle.form_tree.specs.declared.node.Tag.{Tag}
 use Rattle.form_markup.specs.Contents.{Tagged, Piece, Start, Void, Oversized, End, Characters, Ignored, Contents, Nothing, Shown, Hidden, Empty, Element, pieces_of}
 use Rattle.form_markup.specs.Faults.{Outer, outer_of, counts, IsFine, opens_all}
-use Rattle.form_markup.specs.declared.fault.Fault.TheVariants.{Limit, Nesting}
+use Rattle.form_tokens.specs.declared.fault.Fault.TheVariants.{Limit, Nesting}
 
 -- The pieces are contents, an end tag for each open element, and contents behind each.
 abbrev pub Closes : List Outer → List Piece → Type 0

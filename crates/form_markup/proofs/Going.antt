@@ -4,13 +4,15 @@ use Rattle.form_tree.specs.declared.node.Raw.{Raw}
 use Rattle.form_tree.specs.declared.node.Tag.{Tag}
 use Rattle.form_markup.specs.Contents.{Piece, Start, Void, Oversized, End, Characters, Ignored}
 use Rattle.form_markup.specs.Faults.{Outer, opens, counts, fault_of, IsFine, opens_all, counts_all}
-use Rattle.form_markup.specs.Machine.{Level, State, Fails, outers_of, with_text, state, after, after_all, judged, turn}
-use Rattle.form_markup.specs.Pieces.{◌>>=◌, piece_in}
+use Rattle.form_markup.specs.Machine.{Level, State, outers_of, with_text, state, after, after_all, judged, turn}
+use Rattle.form_tokens.specs.Readers.{Fails}
+use Rattle.form_tokens.specs.Readers.{◌>>=◌}
+use Rattle.form_markup.specs.Pieces.{piece_in}
 use Rattle.form_markup.specs.Spelling.{IsCut, Spells, IsFault, kind_at, kind_in, IsPageFault, page_fault}
-use Rattle.form_markup.specs.declared.fault.Fault.{Fault}
-use Rattle.form_markup.specs.declared.fault.Fault.TheVariants as faults
-use Rattle.form_markup.specs.declared.fault.Stop.{Stop}
-use Rattle.form_markup.specs.declared.fault.Stop.TheVariants as stops
+use Rattle.form_tokens.specs.declared.fault.Fault.{Fault}
+use Rattle.form_tokens.specs.declared.fault.Fault.TheVariants as faults
+use Rattle.form_tokens.specs.declared.fault.Stop.{Stop}
+use Rattle.form_tokens.specs.declared.fault.Stop.TheVariants as stops
 use Rattle.form_markup.proofs.Once.{fresh, outers_after_all, spelled}
 use Rattle.form_markup.proofs.Shorter.{piece_shorter}
 

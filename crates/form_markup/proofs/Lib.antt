@@ -3,14 +3,13 @@ pub mod Laws
 pub mod Found
 pub mod Shorter
 pub mod Comments
-pub mod Boundaries
-pub mod Many
 pub mod Once
 pub mod Going
-pub mod Kept
-pub mod Numbers
+pub mod Tags
 pub mod Elements
 pub mod Order
 pub mod Sound
 pub mod Texts
 pub mod AnswerLaws
+pub mod Words
+pub mod Turns

@@ -9,8 +9,8 @@ use Rattle.form_markup.specs.Pieces.{piece_in}
 use Rattle.form_markup.specs.Spelling.{IsCut, Spells, IsFault, IsRead, GivesRaws, kind_at, kind_in}
 use Rattle.form_markup.specs.declared.fault.PageFault.{PageFault}
 use Rattle.form_markup.specs.declared.fault.PageFault.TheVariants as pages
-use Rattle.form_markup.specs.declared.fault.Fault.{Fault}
-use Rattle.form_markup.specs.declared.fault.Fault.TheVariants as faults
+use Rattle.form_tokens.specs.declared.fault.Fault.{Fault}
+use Rattle.form_tokens.specs.declared.fault.Fault.TheVariants as faults
 use Rattle.form_markup.proofs.Laws.{over_contents}
 use Rattle.form_markup.proofs.Found.{nested}
 use Rattle.form_markup.proofs.Shorter.{piece_shorter}

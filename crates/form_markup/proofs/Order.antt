@@ -16,7 +16,7 @@ use Rattle.form_markup.specs.Limits.{depth_under, depths_behind, parents_of}
 use Rattle.form_markup.specs.Machine.{Level, State, state, level, outers_of, parent_of, with_text, more_text, after, after_all}
 use Rattle.form_markup.specs.Names.{tag_named}
 use Rattle.form_markup.specs.declared.TheConstants.{MOST_DEPTH, MOST_ELEMENTS}
-use Rattle.form_markup.specs.declared.fault.Fault.TheVariants as faults
+use Rattle.form_tokens.specs.declared.fault.Fault.TheVariants as faults
 use Rattle.form_markup.proofs.Once.{fresh, outers_after}
 use Rattle.form_markup.proofs.Going.{count_after}
 

@@ -9,7 +9,8 @@ use Rattle.form_markup.specs.Faults.{is_email}
 use Rattle.form_markup.specs.Limits.{HoldsNoEmail, IsShort, IsWithinLimits}
 use Rattle.form_markup.specs.Machine.{State}
 use Rattle.form_markup.specs.Spelling.{Spells}
-use Rattle.form_markup.specs.declared.TheConstants.{MOST_ATTRIBUTES, MOST_ELEMENTS}
+use Rattle.form_tokens.specs.declared.TheConstants.{MOST_ATTRIBUTES}
+use Rattle.form_markup.specs.declared.TheConstants.{MOST_ELEMENTS}
 use Rattle.form_markup.proofs.Elements.{AllGood, all_good, raws_have}
 use Rattle.form_markup.proofs.Once.{fresh, read_contents}
 use Rattle.form_markup.proofs.Order.{Tidy, parents_size, tidy_all, tidy_fresh}

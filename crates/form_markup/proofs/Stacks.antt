@@ -1,12 +1,13 @@
 -- The open elements, and an element's text.
-use Rattle.std.proofs.Common.{◌≡◌, ℕ, zero, suc, ◌<◌, ◌≤◌, List, [], ◌∷◌, length, get_or, set, map, reverse, Bool, true, false, ◌||◌, refl, sym, ap, ◌∙◌, arith}
+use Rattle.std.proofs.Common.{◌≡◌, ℕ, zero, suc, ◌+◌, ◌<◌, ◌≤◌, List, [], ◌∷◌, ◌++◌, length, get_or, set, map, reverse, Bool, true, false, ◌||◌, refl, sym, ap, ◌∙◌, arith}
 use Rattle.std.specs.List.{list_any}
+use Rattle.std.proofs.lemmas.List.{length-reverse, map-append, reverse-append}
 use Rattle.std.proofs.lemmas.List.Folds.{list_any-append}
 use Rattle.std.proofs.lemmas.List.Sorted.{list_any-IsPermutation, IsPermutation-reverse}
 use Rattle.form_tree.specs.declared.node.Raw.{Raw}
 use Rattle.form_tree.specs.declared.node.Tag.{Tag}
 use Rattle.form_markup.specs.Faults.{is_tag, is_inside, tags_round}
-use Rattle.form_markup.specs.Machine.{outers_of, levels_of, with_text}
+use Rattle.form_markup.specs.Machine.{Level, level_of, levels_of, more_text, outers_of, with_more, with_text}
 use Rattle.form_markup.specs.declared.machine.Open.{Open}
 
 pub length_outers : (s : List Open) → length (outers_of (levels_of s)) ≡ length s
@@ -46,3 +47,19 @@ pub inside_else : (wanted : Tag) (around : List Tag) (s : List Open) (r q : Bool
 inside_else wanted around s r q e f h =
     let none : list_any (λ o. is_tag wanted o.tag) (reverse s) ≡ false = sym e ∙ f in
     h ∙ (sym (ap (λ b. b || list_any (is_tag wanted) around) none) ∙ inside_round wanted around s)
+
+pub more_front : (bytes : List ℕ) (s : List Level) (l : Level) → 0 < length s → more_text bytes s ++ (l ∷ []) ≡ more_text bytes (s ++ (l ∷ []))
+more_front bytes [] l lt = absurd (omega arith)
+more_front bytes (o ∷ os) l lt = refl
+
+-- more text of the last that was pushed
+pub more_last : (bytes : List ℕ) (xs : List Open) (n : ℕ) (o new : Open) → n < length xs → length xs ≤ n + 1 → o ≡ get_or xs n o → level_of new ≡ with_more bytes (level_of o) → levels_of (reverse (set xs n new)) ≡ more_text bytes (levels_of (reverse xs))
+more_last bytes [] n o new lt le e m = absurd (omega arith)
+more_last bytes (x ∷ []) zero o new lt le e m = ap (λ (l : Level). l ∷ []) (m ∙ ap (λ (y : Open). with_more bytes (level_of y)) e)
+more_last bytes (x ∷ y ∷ ys) zero o new lt le e m = absurd (omega arith)
+more_last bytes (x ∷ xs) (suc n) o new lt le e m =
+    let some : 0 < length (levels_of (reverse xs)) = omega (arith, length_levels (reverse xs), length-reverse xs) in
+    ap levels_of (reverse-append (x ∷ []) (set xs n new)) ∙ (map-append level_of (reverse (set xs n new)) (x ∷ [])
+    ∙ (ap (λ (s : List Level). s ++ (level_of x ∷ [])) (more_last bytes xs n o new (omega arith) (omega arith) e m)
+    ∙ (more_front bytes (levels_of (reverse xs)) (level_of x) some
+    ∙ ap (more_text bytes) (sym (map-append level_of (reverse xs) (x ∷ [])) ∙ sym (ap levels_of (reverse-append (x ∷ []) xs))))))

@@ -4,10 +4,10 @@ use Rattle.form_tree.specs.declared.node.Raw.{Raw}
 use Rattle.form_tree.specs.declared.node.Tag.{Tag}
 use Rattle.form_markup.specs.Machine.{Level, State, state, turn}
 use Rattle.form_markup.specs.Spelling.{page_fault}
-use Rattle.form_markup.specs.declared.fault.Fault.{Fault}
+use Rattle.form_tokens.specs.declared.fault.Fault.{Fault}
 use Rattle.form_markup.specs.declared.fault.PageFault.{PageFault}
 use Rattle.form_markup.specs.declared.fault.PageFault.TheVariants as pages
-use Rattle.form_markup.specs.declared.fault.Stop.TheVariants as stops
+use Rattle.form_tokens.specs.declared.fault.Stop.TheVariants as stops
 
 -- the answer at the end of a text of this length: none of its elements may be open
 abbrev pub end_answer : ℕ → List Level → List Raw → Result (List Raw) PageFault

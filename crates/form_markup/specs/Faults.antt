@@ -13,8 +13,8 @@ use Rattle.form_types.specs.TypeTable.{names_email}
 use Rattle.form_markup.specs.Names.{tag_named, is_among, refused_names}
 use Rattle.form_markup.specs.Contents.{Tagged, Piece, Start, Void, Oversized, End, Characters, Ignored}
 use Rattle.form_markup.specs.declared.TheConstants.{MOST_ELEMENTS, MOST_DEPTH}
-use Rattle.form_markup.specs.declared.fault.Fault.{Fault}
-use Rattle.form_markup.specs.declared.fault.Fault.TheVariants.{Limit, Element, Email, Nesting}
+use Rattle.form_tokens.specs.declared.fault.Fault.{Fault}
+use Rattle.form_tokens.specs.declared.fault.Fault.TheVariants.{Limit, Element, Email, Nesting}
 
 -- an element that is open: what it is, and its name
 pub record Outer : Type 0 where

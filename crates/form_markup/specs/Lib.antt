@@ -1,12 +1,10 @@
-pub mod Bytes
 pub mod Names
 pub mod Contents
 pub mod Faults
 pub mod Pieces
-pub mod Runs
-pub mod Kept
 pub mod Tags
 pub mod Spelling
 pub mod Machine
+pub mod Turns
 pub mod Limits
 pub mod Answer

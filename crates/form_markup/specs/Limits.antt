@@ -4,7 +4,8 @@ use Rattle.std.specs.List.{All, slice_index}
 use Rattle.form_tree.specs.declared.node.Raw.{Raw}
 use Rattle.form_tree.specs.declared.node.Tag.{Tag}
 use Rattle.form_markup.specs.Faults.{is_email}
-use Rattle.form_markup.specs.declared.TheConstants.{MOST_ATTRIBUTES, MOST_DEPTH, MOST_ELEMENTS, MOST_VALUE}
+use Rattle.form_tokens.specs.declared.TheConstants.{MOST_ATTRIBUTES, MOST_VALUE}
+use Rattle.form_markup.specs.declared.TheConstants.{MOST_DEPTH, MOST_ELEMENTS}
 
 -- the depth of an element, of which the depths of the elements before it are known: one at the top lies at depth 1,
 -- and a child lies one deeper than its parent

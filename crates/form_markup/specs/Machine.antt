@@ -1,50 +1,29 @@
 -- What the reader has read, one piece after another.
-use Rattle.std.specs.Prelude.{◌≡◌, ℕ, map, zero, suc, List, [], ◌∷◌, ◌++◌, Option, Some, None, length, Result, Ok, Err}
-use Rattle.std.specs.Char.{encode_utf8}
+use Rattle.std.specs.Prelude.{ℕ, string_bytes, map, zero, suc, List, [], ◌∷◌, ◌++◌, Option, Some, None, length, Result, Ok, Err}
 use Rattle.form_markup.specs.Contents.{Tagged, Piece, Start, Void, Oversized, End, Characters, Ignored, raw_of}
 use Rattle.form_markup.specs.Names.{tag_named}
 use Rattle.form_markup.specs.Faults.{Outer, fault_of, tags_round}
-use Rattle.form_markup.specs.Pieces.{◌>>=◌, piece_in}
-use Rattle.form_markup.specs.declared.fault.Fault.{Fault}
-use Rattle.form_markup.specs.declared.fault.Stop.{Stop}
-use Rattle.form_markup.specs.declared.fault.Stop.TheVariants as stops
+use Rattle.form_tokens.specs.Readers.{◌>>=◌}
+use Rattle.form_markup.specs.Pieces.{piece_in}
+use Rattle.form_tokens.specs.declared.fault.Fault.{Fault}
 use Rattle.form_markup.specs.declared.machine.Machine.{Machine}
 use Rattle.form_markup.specs.declared.machine.Open.{Open}
-use Rattle.form_markup.specs.declared.piece.Chunk.{Chunk}
-use Rattle.form_markup.specs.declared.piece.Chunk.TheVariants as chunks
 use Rattle.form_markup.specs.declared.piece.Found.{Found}
 use Rattle.form_markup.specs.declared.piece.Found.TheVariants as found
 use Rattle.form_markup.specs.declared.piece.Head.{Head}
 use Rattle.form_tree.specs.declared.node.Raw.{Raw}
 use Rattle.form_tree.specs.declared.node.Tag.{Tag}
 
--- ---- what a call returned, against what reading gives
-
--- the fault of the text, or there was no memory
-abbrev pub Fails : {Y : Type 0} → Stop → Result Y Fault → Type 0
-Fails stops.Memory read = Unit {0}
-Fails (stops.At kind) read = read ≡ Err kind
-
--- What a call returned, seen by view, is what reading gives, unless memory ran out.
-abbrev pub Gives : {X Y : Type 0} → (X → Y) → Result X Stop → Result Y Fault → Type 0
-Gives view (Ok x) read = read ≡ Ok (view x)
-Gives view (Err e) read = Fails e read
-
 -- ---- the pieces that the reader finds
 
 abbrev pub tagged_of : Head → Tagged
 tagged_of head = record { name = head.name.now; attrs = head.attrs }
-
-abbrev pub chunk_of : Chunk → List ℕ
-chunk_of (chunks.Run text) = text.now
-chunk_of (chunks.Character c) = encode_utf8 c
 
 abbrev pub piece_of : Found → Piece
 piece_of (found.Start head) = Start (tagged_of head)
 piece_of (found.Void head) = Void (tagged_of head)
 piece_of found.Oversized = Oversized
 piece_of (found.End name) = End name.now
-piece_of (found.Characters chunk) = Characters (chunk_of chunk)
 piece_of found.Ignored = Ignored
 
 -- ---- the open elements and the elements so far
@@ -62,7 +41,7 @@ pub record State : Type 0 where
   pub raws : List Raw
 
 abbrev pub level_of : Open → Level
-level_of o = record { place = o.place; tag = o.tag; name = o.name.now; text = o.text }
+level_of o = record { place = o.place; tag = o.tag; name = o.name.now; text = string_bytes o.text }
 
 abbrev pub levels_of : List Open → List Level
 levels_of os = map level_of os

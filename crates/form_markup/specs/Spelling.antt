@@ -5,12 +5,12 @@ use Rattle.form_tree.specs.declared.node.Tag.{Tag}
 use Rattle.form_markup.specs.Contents.{Contents, Piece, pieces_of, raws_of}
 use Rattle.form_markup.specs.Faults.{Outer, IsFine, fault_of, opens, opens_all, counts_all}
 use Rattle.form_markup.specs.Pieces.{piece_in}
-use Rattle.form_markup.specs.declared.fault.Fault.{Fault}
-use Rattle.form_markup.specs.declared.fault.Fault.TheVariants as faults
+use Rattle.form_tokens.specs.declared.fault.Fault.{Fault}
+use Rattle.form_tokens.specs.declared.fault.Fault.TheVariants as faults
 use Rattle.form_markup.specs.declared.fault.PageFault.{PageFault}
 use Rattle.form_markup.specs.declared.fault.PageFault.TheVariants as pages
-use Rattle.form_markup.specs.declared.fault.Stop.{Stop}
-use Rattle.form_markup.specs.declared.fault.Stop.TheVariants as stops
+use Rattle.form_tokens.specs.declared.fault.Stop.{Stop}
+use Rattle.form_tokens.specs.declared.fault.Stop.TheVariants as stops
 
 -- The pieces stand one after another at the front of the text, and the rest behind them.
 abbrev pub IsCut : List Outer → List Piece → List ℕ → List ℕ → Type 0

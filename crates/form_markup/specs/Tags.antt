@@ -1,11 +1,13 @@
 -- The piece of a tag, of what is kept of its attributes.
 use Rattle.std.specs.Prelude.{ℕ, List, Result, Ok, if◌then◌else◌}
 use Rattle.form_markup.specs.Contents.{Piece, Start, Void, Oversized}
-use Rattle.form_markup.specs.Pieces.{◌>>=◌, behind_space, behind_tag, is_void, run_at, tag_end}
-use Rattle.form_markup.specs.Kept.{kept_at}
-use Rattle.form_markup.specs.declared.fault.Fault.{Fault}
-use Rattle.form_markup.specs.declared.piece.Class.TheVariants as classes
-use Rattle.form_markup.specs.declared.attributes.Attributes.{Attributes}
+use Rattle.form_tokens.specs.Readers.{◌>>=◌}
+use Rattle.form_tokens.specs.Runs.{behind_space, run_at}
+use Rattle.form_markup.specs.Pieces.{behind_tag, is_void, tag_end}
+use Rattle.form_tokens.specs.Kept.{kept_at}
+use Rattle.form_tokens.specs.declared.fault.Fault.{Fault}
+use Rattle.form_tokens.specs.declared.class.Class.TheVariants as classes
+use Rattle.form_tokens.specs.declared.attributes.Attributes.{Attributes}
 
 abbrev pub tag_kept : List ℕ → Attributes → Piece
 tag_kept name a =

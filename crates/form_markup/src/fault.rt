@@ -1,42 +1,8 @@
 ghost use Rattle.std.specs.Prelude.{◌≡◌};
 ghost use Rattle.form_markup.specs.Spelling.{page_fault};
-ghost use Rattle.form_markup.specs.declared.fault.Stop.TheVariants.{Memory};
 
-use std::alloc::{AllocError, AllocFailed};
+use form_tokens::{Fault, Stop};
 use thiserror::Error;
-
-/// What is wrong with a piece.
-#[derive(Clone, Copy)]
-pub enum Fault {
-    Lexical,
-    Limit,
-    Element,
-    Email,
-    Nesting,
-}
-
-/// Why the reading of a piece stopped.
-#[derive(Drop)]
-pub enum Stop {
-    Memory,
-    At(Fault),
-}
-
-impl From<AllocError> for Stop {
-    ghost from_gives = { λ _ e. e ≡ Memory };
-
-    fn from(_e: AllocError) -> Stop {
-        Stop::Memory
-    }
-}
-
-impl<T: Drop> From<AllocFailed<T>> for Stop {
-    ghost from_gives = { λ _ e. e ≡ Memory };
-
-    fn from(_e: AllocFailed<T>) -> Stop {
-        Stop::Memory
-    }
-}
 
 /// Why a text is refused: the first piece from the left that has a fault decides, and of one piece
 /// the first kind of this order. The number is the byte of the text, from 0, where that piece

@@ -6,9 +6,6 @@
 //! they have (`Contents`), what is a fault (`Faults`), and what a text spells (`Spelling`).
 #![tactic(auto)]
 
-mod attributes;
-mod characters;
-mod cursor;
 mod fault;
 mod machine;
 mod names;
@@ -16,12 +13,12 @@ mod page;
 mod piece;
 mod raws;
 mod reading;
-mod references;
 mod stack;
 #[cfg(test)]
 mod tests;
 
 pub use fault::PageFault;
+pub use form_tokens::{MOST_ATTRIBUTES, MOST_VALUE};
 pub use page::{one_answer, read, read_in};
 
 /// The most elements that a text may have.
@@ -29,9 +26,3 @@ pub const MOST_ELEMENTS: usize = 65_536;
 
 /// The greatest depth of an element; one at the top lies at depth 1.
 pub const MOST_DEPTH: usize = 256;
-
-/// The most attributes of a tag, counted as they are written.
-pub const MOST_ATTRIBUTES: usize = 64;
-
-/// The most bytes of the value of an attribute, decoded.
-pub const MOST_VALUE: usize = 1_048_576;

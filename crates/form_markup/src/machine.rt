@@ -1,23 +1,24 @@
 // What the reader has read, and which fault the next piece has.
-ghost use Rattle.std.specs.Prelude.{◌≡◌, [], ◌∷◌, ◌++◌, ◌||◌, ◌&&◌, List, map, reverse, nat_le, length, IfOk, OnOk, Some, None, MatchOption, codes, not};
+ghost use Rattle.std.specs.Prelude.{◌≡◌, [], ◌∷◌, ◌||◌, ◌&&◌, List, reverse, length, OnOk, Some, None, MatchOption, not};
 ghost use Rattle.std.specs.List.{list_any};
 ghost use Rattle.std.specs.Option.{option_copied, option_map};
 ghost use Rattle.form_tree.specs.Tree.{attr_in};
 ghost use Rattle.form_tree.specs.declared.node.Tag.{Tag};
 ghost use Rattle.form_types.specs.TypeTable.{names_email};
 ghost use Rattle.form_markup.specs.Contents.{Piece};
-ghost use Rattle.form_markup.specs.Faults.{element_fault, end_fault, fault_of, is_child_of, is_email, is_in_itself, is_inside, is_misplaced, is_odd_in_optgroup, is_odd_in_select, is_over_limit, is_stray_optgroup, is_stray_option, is_tag, tags_round};
+ghost use Rattle.form_markup.specs.Faults.{element_fault, end_fault, fault_of, is_child_of, is_email, is_in_itself, is_inside, is_misplaced, is_odd_in_optgroup, is_odd_in_select, is_over_limit, is_stray_optgroup, is_stray_option, is_tag};
 ghost use Rattle.form_markup.specs.Names.{tag_named};
 ghost use Rattle.form_markup.specs.Pieces.{is_in_textarea};
-ghost use Rattle.form_markup.specs.Machine.{after, chunk_of, closed, level_of, levels_of, more_text, outers_in, parent_of, piece_of, round_of, state, state_of, tagged_of, with_raw};
+ghost use Rattle.form_markup.specs.Machine.{after, closed, levels_of, more_text, outers_in, parent_of, piece_of, round_of, state, state_of, tagged_of, with_raw};
+ghost use Rattle.form_tokens.specs.Characters.{chunk_of};
 
-use crate::fault::Fault;
 use crate::names::{is_refused, is_textarea, tag_named};
-use crate::piece::{Chunk, Found, Head};
+use crate::piece::{Found, Head};
 use crate::raws::Raws;
 use crate::stack::Stack;
 use crate::{MOST_DEPTH, MOST_ELEMENTS};
 use form_text::{Sequence, Text, eq_ascii_case};
+use form_tokens::{Chunk, Fault};
 use form_tree::{Raw, Tag};
 use std::alloc::{AllocError, Global};
 
@@ -28,7 +29,7 @@ pub struct Open<'a> {
     pub place: usize,
     pub tag: Tag,
     pub name: &'a str,
-    pub text: Text,
+    pub text: String,
 }
 
 /// What was read so far: the elements that are open, and all elements, of which the open ones have
@@ -252,7 +253,6 @@ impl<'a> Machine<'a> {
             Found::Void(head) => self.element_fault(around, head),
             Found::Oversized => Some(Fault::Limit),
             Found::End(name) => self.end_fault(name),
-            Found::Characters(_) => None,
             Found::Ignored => None,
         }
     }
@@ -289,7 +289,7 @@ impl<'a> Machine<'a> {
             place: self.raws.len(),
             tag: tag_named(head.name),
             name: head.name,
-            text: Text::from_string(String::new(alloc)),
+            text: String::new(alloc),
         };
         self.add_raw(alloc, head)?;
         self.stack.push(open)?;
@@ -300,34 +300,16 @@ impl<'a> Machine<'a> {
         ensures { state_of self.new ≡ closed (levels_of self.old.stack) self.old.raws }
     {
         if let Some(open) = self.stack.pop() {
-            self.raws.set_text(open.place, open.text);
+            self.raws.set_text(open.place, Text::from_string(open.text));
         }
     }
 
-    fn add_text(&mut self, chunk: Chunk<'_>) -> Result<(), AllocError>
+    /// Takes characters, which belong to the innermost open element.
+    pub fn add_text(&mut self, chunk: Chunk<'_>) -> Result<(), AllocError>
         ensures { OnOk result (state_of self.new
             ≡ state (more_text (chunk_of chunk.entry) (levels_of self.old.stack)) self.old.raws) }
     {
-        match self.stack.pop() {
-            Some(open) => {
-                let Open {
-                    place,
-                    tag,
-                    name,
-                    text,
-                } = open;
-                let mut text = text.into_string();
-                chunk.write(&mut text)?;
-                self.stack.push(Open {
-                    place,
-                    tag,
-                    name,
-                    text: Text::from_string(text),
-                })?;
-                Ok(())
-            }
-            None => Ok(()),
-        }
+        self.stack.write(chunk)
     }
 
     /// Takes a piece.
@@ -343,7 +325,6 @@ impl<'a> Machine<'a> {
                 self.end();
                 Ok(())
             }
-            Found::Characters(chunk) => self.add_text(chunk),
             Found::Ignored => Ok(()),
         }
     }

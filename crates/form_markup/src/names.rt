@@ -39,10 +39,22 @@ const REFUSED: [&str; 26] = [
     "xmp",
 ];
 
+// Whether the name is the word, whose case does not count. Most words have another length, which is
+// asked first.
+#[inline(always)]
+fn is_word(name: &str, word: &str) -> bool
+    ensures { result ≡ str_eq_ignore_ascii_case name.now word.now }
+{
+    if name.len() != word.len() {
+        return false;
+    }
+    eq_ascii_case(name, word)
+}
+
 fn is_one_of(name: &str, words: &[&str]) -> bool
     ensures { result ≡ list_any (λ word. str_eq_ignore_ascii_case name.now word.now) words.now }
 {
-    words.iter().any(|word| eq_ascii_case(name, word))
+    words.iter().any(|word| is_word(name, word))
 }
 
 /// Whether an element of the name has no contents and no end tag (HTML, "Void elements").
@@ -71,7 +83,7 @@ pub fn is_refused(name: &str) -> bool
 pub fn is_textarea(name: &str) -> bool
     ensures { result ≡ is_textarea name.now }
 {
-    eq_ascii_case(name, "textarea")
+    is_word(name, "textarea")
 }
 
 /// What an element of the name is.
@@ -79,34 +91,34 @@ pub fn is_textarea(name: &str) -> bool
 pub fn tag_named(name: &str) -> Tag
     ensures { result ≡ tag_named name.now }
 {
-    if eq_ascii_case(name, "form") {
+    if is_word(name, "form") {
         return Tag::Form;
     }
-    if eq_ascii_case(name, "fieldset") {
+    if is_word(name, "fieldset") {
         return Tag::Fieldset;
     }
-    if eq_ascii_case(name, "legend") {
+    if is_word(name, "legend") {
         return Tag::Legend;
     }
-    if eq_ascii_case(name, "input") {
+    if is_word(name, "input") {
         return Tag::Input;
     }
-    if eq_ascii_case(name, "select") {
+    if is_word(name, "select") {
         return Tag::Select;
     }
-    if eq_ascii_case(name, "optgroup") {
+    if is_word(name, "optgroup") {
         return Tag::Optgroup;
     }
-    if eq_ascii_case(name, "option") {
+    if is_word(name, "option") {
         return Tag::Choice;
     }
-    if eq_ascii_case(name, "textarea") {
+    if is_word(name, "textarea") {
         return Tag::Textarea;
     }
-    if eq_ascii_case(name, "button") {
+    if is_word(name, "button") {
         return Tag::Button;
     }
-    if eq_ascii_case(name, "datalist") {
+    if is_word(name, "datalist") {
         return Tag::Datalist;
     }
     Tag::Other

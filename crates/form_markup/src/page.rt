@@ -1,23 +1,107 @@
-ghost use Rattle.std.specs.Prelude.{◌≡◌, ◌<◌, ℕ, List, [], IfOk, IfErr, IsUtf8, length};
+ghost use Rattle.std.specs.Prelude.{◌≡◌, ◌<◌, ℕ, List, [], Err, IfOk, IfErr, IsUtf8};
+ghost use Rattle.form_markup.specs.declared.fault.PageFault.TheVariants.{Memory};
 ghost use Rattle.form_tree.specs.declared.node.Raw.{Raw};
 ghost use Rattle.form_tree.specs.declared.node.Tag.{Tag};
-ghost use Rattle.form_markup.specs.declared.fault.Fault.{Fault};
+ghost use Rattle.form_tokens.specs.declared.fault.Fault.{Fault};
 ghost use Rattle.form_markup.specs.Spelling.{GivesRaws, IsFault, IsPageFault, IsRead, Spells};
 ghost use Rattle.form_tree.specs.Tree.{IsTreeOfRaws};
 ghost use Rattle.form_markup.specs.Answer.{Answers, answer_of};
 ghost use Rattle.form_markup.specs.Limits.{HoldsNoEmail, IsWithinLimits};
-ghost use Rattle.form_markup.specs.Machine.{Gives, state_of, turn};
+ghost use Rattle.form_tokens.specs.Readers.{Gives};
+ghost use Rattle.form_markup.specs.Machine.{state_of, turn};
+ghost use Rattle.form_markup.specs.Turns.{inside_turn, outside_turn, tag_turn, text_turn};
 
 use crate::PageFault;
-use crate::fault::{Stop, fault_at};
+use crate::fault::fault_at;
 use crate::machine::Machine;
 use crate::raws::Raws;
-use crate::reading::piece_in;
+use crate::reading::tag_of;
+use form_tokens::{Context, Stop, after_byte, begins, chunk_of, closes_textarea};
 use form_tree::{Raw, Tag};
 use std::alloc::Global;
 
+// Takes the tag, comment or doctype at the front of the text, and gives what stands behind it.
+#[tactic(auto, unfolding(crate::specs::Turns::tag_turn))]
+fn take_tag<'a>(
+    machine: &mut Machine<'a>,
+    alloc: Global,
+    around: &[Tag],
+    text: &'a str,
+) -> Result<&'a str, Stop>
+    ensures turn { Gives (λ rest. (state_of machine.new, rest.now)) result
+        (tag_turn around.now (state_of machine.old) text.now) }
+    ensures utf8 { IfOk result (λ rest. IsUtf8 rest.now) }
+{
+    let rest = after_byte(text, b'<')?;
+    match tag_of(alloc, rest) {
+        Ok((piece, rest)) => {
+            if let Some(fault) = machine.fault_of(around, &piece) {
+                return Err(Stop::At(fault));
+            }
+            machine.take(alloc, piece)?;
+            Ok(rest)
+        }
+        Err(stop) => Err(stop),
+    }
+}
+
+// Takes the characters or the reference at the front of the text, and gives what stands behind.
+#[tactic(auto, unfolding(crate::specs::Turns::text_turn))]
+fn take_text<'a>(
+    machine: &mut Machine<'_>,
+    context: Context,
+    text: &'a str,
+) -> Result<&'a str, Stop>
+    ensures turn { Gives (λ rest. (state_of machine.new, rest.now)) result
+        (text_turn context (state_of machine.old) text.now) }
+    ensures utf8 { IfOk result (λ rest. IsUtf8 rest.now) }
+{
+    match chunk_of(context, text) {
+        Ok((chunk, rest)) => {
+            machine.add_text(chunk)?;
+            Ok(rest)
+        }
+        Err(stop) => Err(stop),
+    }
+}
+
+// Takes the piece at the front of the text where no textarea is open.
+fn advance_outside<'a>(
+    machine: &mut Machine<'a>,
+    alloc: Global,
+    around: &[Tag],
+    text: &'a str,
+) -> Result<&'a str, Stop>
+    ensures turn { Gives (λ rest. (state_of machine.new, rest.now)) result
+        (outside_turn around.now (state_of machine.old) text.now) }
+    ensures utf8 { IfOk result (λ rest. IsUtf8 rest.now) }
+{
+    if begins(text, b'<') {
+        take_tag(machine, alloc, around, text)
+    } else {
+        take_text(machine, Context::Content, text)
+    }
+}
+
+// Takes the piece at the front of a textarea's text.
+fn advance_inside<'a>(
+    machine: &mut Machine<'a>,
+    alloc: Global,
+    around: &[Tag],
+    text: &'a str,
+) -> Result<&'a str, Stop>
+    ensures turn { Gives (λ rest. (state_of machine.new, rest.now)) result
+        (inside_turn around.now (state_of machine.old) text.now) }
+    ensures utf8 { IfOk result (λ rest. IsUtf8 rest.now) }
+{
+    if closes_textarea(text.as_bytes()) {
+        take_tag(machine, alloc, around, text)
+    } else {
+        take_text(machine, Context::Textarea, text)
+    }
+}
+
 // Takes the piece at the front of the text, and gives what stands behind it.
-#[tactic(auto, unfolding(crate::specs::Machine::turn))]
 fn advance<'a>(
     machine: &mut Machine<'a>,
     alloc: Global,
@@ -28,16 +112,10 @@ fn advance<'a>(
         (turn around.now (state_of machine.old) text.now) }
     ensures utf8 { IfOk result (λ rest. IsUtf8 rest.now) }
 {
-    let is_raw = machine.is_in_textarea();
-    match piece_in(alloc, is_raw, text) {
-        Ok((piece, rest)) => {
-            if let Some(fault) = machine.fault_of(around, &piece) {
-                return Err(Stop::At(fault));
-            }
-            machine.take(alloc, piece)?;
-            Ok(rest)
-        }
-        Err(stop) => Err(stop),
+    if machine.is_in_textarea() {
+        advance_inside(machine, alloc, around, text)
+    } else {
+        advance_outside(machine, alloc, around, text)
     }
 }
 
@@ -102,7 +180,7 @@ pub fn read(alloc: Global, text: &str) -> Result<Vec<Raw>, PageFault>
 }
 
 /// A law: a text spells one list at most, or has one fault, and not both; its answer is the one or the
-/// other.
+/// other, and never that memory was refused.
 pub fn one_answer()
     ensures list { (around : List Tag) (text : List ℕ) (xs ys : List Raw)
         → Spells around text xs → Spells around text ys → xs ≡ ys }
@@ -112,4 +190,6 @@ pub fn one_answer()
         → Spells around text raws → IsFault around text kind place → ⊥ }
     ensures answer { (around : List Tag) (text : List ℕ)
         → IsRead around text (answer_of around text) }
+    ensures never { (around : List Tag) (text : List ℕ)
+        → answer_of around text ≡ Err Memory → ⊥ }
 {}

@@ -1,27 +1,4 @@
-ghost use Rattle.std.specs.Prelude.{◌≡◌};
-
 use form_text::{Sequence, Text};
-
-/// What a byte of markup may be part of.
-#[derive(Clone, Copy)]
-pub enum Class {
-    Space,
-    Name,
-    AttributeName,
-    Unquoted,
-    Quoted(u8),
-    Alphanumeric,
-    Digit,
-    Hexadecimal,
-}
-
-/// Where characters stand: between tags, in a textarea, or in the value of an attribute.
-#[derive(Clone, Copy)]
-pub enum Context {
-    Content,
-    Textarea,
-    Value,
-}
 
 /// A start tag or the tag of a void element: the element's name as it is written, and of the
 /// attributes of each name the first.
@@ -31,14 +8,7 @@ pub struct Head<'a> {
     pub attrs: Sequence<(Text, Text)>,
 }
 
-/// Characters as they are written, or the one that a reference stands for.
-#[derive(Clone, Copy)]
-pub enum Chunk<'a> {
-    Run(&'a str),
-    Character(char),
-}
-
-/// A piece of the text, as the reader finds it.
+/// A piece of the text that begins with `<`, as the reader finds it.
 #[derive(Drop)]
 pub enum Found<'a> {
     Start(Head<'a>),
@@ -47,7 +17,6 @@ pub enum Found<'a> {
     Oversized,
     /// An end tag, with its name as it is written.
     End(&'a str),
-    Characters(Chunk<'a>),
     /// A comment or a doctype.
     Ignored,
 }

@@ -1,16 +1,17 @@
 // The pieces of a text.
-ghost use Rattle.std.specs.Prelude.{◌≡◌, ◌≤◌, ◌&&◌, nat_eq, codes, length, Err, if◌then◌else◌};
+ghost use Rattle.std.specs.Prelude.{◌≡◌, ◌≤◌, ◌-◌, ◌&&◌, nat_eq, nat_le, codes, drop, length, Err, if◌then◌else◌};
 ghost use Rattle.std.specs.List.{prefix_len, starts_with};
-ghost use Rattle.form_markup.specs.Machine.{Gives, piece_of};
-ghost use Rattle.form_markup.specs.Pieces.{behind_ignored, behind_tag, characters_at, comment_at, comment_len, doctype_at, end_at, end_tag_at, ignored_at, is_before_end, is_doctype, piece_at, raw_at, start_at, tag_at, tag_end, tag_piece};
+ghost use Rattle.form_tokens.specs.Readers.{Gives};
+ghost use Rattle.form_markup.specs.Machine.{piece_of};
+ghost use Rattle.form_markup.specs.Pieces.{behind_ignored, behind_tag, comment_at, comment_end, comment_len, doctype_at, end_at, end_tag_at, ignored_at, is_before_end, is_doctype, start_at, tag_at, tag_end, tag_piece};
 ghost use Rattle.form_markup.specs.Tags.{start_kept, tag_kept};
 
-use crate::attributes::{Attributes, attributes_of};
-use crate::characters::{chunk_of, closes_textarea};
-use crate::cursor::{after_byte, begins, begins_letter, behind_space, run_of};
-use crate::fault::{Fault, Stop};
 use crate::names::{is_textarea, is_void};
-use crate::piece::{Class, Context, Found, Head};
+use crate::piece::{Found, Head};
+use form_tokens::{
+    Attributes, Class, Fault, Stop, after_byte, attributes_of, begins, begins_letter, behind_space,
+    run_of,
+};
 use memchr::memchr;
 use std::alloc::Global;
 
@@ -87,15 +88,42 @@ fn end_of(text: &str) -> Result<(Found<'_>, &str), Stop>
     Ok((Found::End(name), rest))
 }
 
+// How many bytes stand before the first `>`.
+fn before_end(bytes: &[u8]) -> usize
+    ensures value { result ≡ prefix_len is_before_end bytes.now }
+    ensures bound { result ≤ length bytes.now }
+{
+    match memchr(b'>', bytes) {
+        Some(place) => place,
+        None => bytes.len(),
+    }
+}
+
+// Whether a comment ends with the byte at the place.
+fn ends_with(bytes: &[u8], place: usize) -> bool
+    requires { place ≤ length bytes.now }
+    ensures { result
+        ≡ (nat_le 2 place && starts_with nat_eq (drop (place - 2) bytes.now) comment_end) }
+{
+    if place < 2 {
+        return false;
+    }
+    let (_, end) = bytes.split_at(place - 2);
+    end.starts_with(b"-->")
+}
+
 // How many bytes there are to behind the first `-->`.
 fn comment_len(bytes: &[u8]) -> Option<usize>
     ensures { result ≡ comment_len bytes.now }
 {
-    for i in 0..bytes.len() {
-        let (_, rest) = bytes.split_at(i);
-        if rest.starts_with(b"-->") {
-            return Some(i + 3);
+    let mut done = 0;
+    'ends: while done < bytes.len() {
+        let (_, rest) = bytes.split_at(done);
+        let place = done + before_end(rest);
+        if ends_with(bytes, place) {
+            return Some(place + 1);
         }
+        done = place + 1;
     }
     None
 }
@@ -129,17 +157,6 @@ fn comment_of(text: &str) -> Result<(Found<'_>, &str), Stop>
         return Err(Stop::At(Fault::Lexical));
     }
     behind_comment(text)
-}
-
-// How many bytes stand before the first `>`.
-fn before_end(bytes: &[u8]) -> usize
-    ensures value { result ≡ prefix_len is_before_end bytes.now }
-    ensures bound { result ≤ length bytes.now }
-{
-    match memchr(b'>', bytes) {
-        Some(place) => place,
-        None => bytes.len(),
-    }
 }
 
 // What stands behind `<!doctype`.
@@ -194,9 +211,9 @@ fn end_tag_of(text: &str) -> Result<(Found<'_>, &str), Stop>
     Err(Stop::At(Fault::Lexical))
 }
 
-// What stands behind `<`.
+/// The piece at the front of what stands behind `<`, and what stands behind the piece.
 #[tactic(auto, unfolding(crate::specs::Pieces::tag_at))]
-fn tag_of(alloc: Global, text: &str) -> Result<(Found<'_>, &str), Stop>
+pub fn tag_of(alloc: Global, text: &str) -> Result<(Found<'_>, &str), Stop>
     ensures { Gives (λ x. (piece_of x.0, x.1.now)) result (tag_at text.now) }
 {
     if begins(text, b'!') {
@@ -211,48 +228,4 @@ fn tag_of(alloc: Global, text: &str) -> Result<(Found<'_>, &str), Stop>
         return start_of(alloc, text);
     }
     Err(Stop::At(Fault::Lexical))
-}
-
-#[tactic(auto, unfolding(crate::specs::Pieces::characters_at))]
-fn characters_of(context: Context, text: &str) -> Result<(Found<'_>, &str), Stop>
-    ensures { Gives (λ x. (piece_of x.0, x.1.now)) result (characters_at context text.now) }
-{
-    let (chunk, rest) = chunk_of(context, text)?;
-    Ok((Found::Characters(chunk), rest))
-}
-
-// The piece at the front, outside a textarea.
-#[tactic(auto, unfolding(crate::specs::Pieces::piece_at))]
-fn piece_outside(alloc: Global, text: &str) -> Result<(Found<'_>, &str), Stop>
-    ensures { Gives (λ x. (piece_of x.0, x.1.now)) result (piece_at text.now) }
-{
-    if begins(text, b'<') {
-        let rest = after_byte(text, b'<')?;
-        return tag_of(alloc, rest);
-    }
-    characters_of(Context::Content, text)
-}
-
-// The piece at the front of a textarea's text.
-#[tactic(auto, unfolding(crate::specs::Pieces::raw_at))]
-fn piece_inside(alloc: Global, text: &str) -> Result<(Found<'_>, &str), Stop>
-    ensures { Gives (λ x. (piece_of x.0, x.1.now)) result (raw_at text.now) }
-{
-    if closes_textarea(text.as_bytes()) {
-        let rest = after_byte(text, b'<')?;
-        return tag_of(alloc, rest);
-    }
-    characters_of(Context::Textarea, text)
-}
-
-/// The piece at the front, and what stands behind it, in a textarea or elsewhere.
-pub fn piece_in(alloc: Global, is_raw: bool, text: &str) -> Result<(Found<'_>, &str), Stop>
-    ensures { Gives (λ x. (piece_of x.0, x.1.now)) result
-        (if is_raw then raw_at text.now else piece_at text.now) }
-{
-    if is_raw {
-        piece_inside(alloc, text)
-    } else {
-        piece_outside(alloc, text)
-    }
 }

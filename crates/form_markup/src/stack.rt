@@ -1,5 +1,9 @@
-ghost use Rattle.std.specs.Prelude.{List, ◌≡◌, [], ◌∷◌, OnOk, MatchOption, reverse, length, option_copied, option_map};
+ghost use Rattle.std.specs.Prelude.{List, ◌≡◌, [], ◌∷◌, OnOk, MatchOption, reverse, length};
+ghost use Rattle.form_tokens.specs.Characters.{chunk_of};
+ghost use Rattle.form_markup.specs.Machine.{levels_of, more_text};
 
+use crate::machine::Open;
+use form_tokens::Chunk;
 use std::alloc::{AllocError, Global};
 use std::marker::Model;
 
@@ -65,5 +69,20 @@ impl<T> Stack<T> {
             (λ item. (rest : List T) × (self.now ≡ item.now ∷ rest)) }
     {
         self.items.last()
+    }
+}
+
+impl Stack<Open<'_>> {
+    /// Writes characters behind the text of the innermost open element, where one is open.
+    pub fn write(&mut self, chunk: Chunk<'_>) -> Result<(), AllocError>
+        ensures { OnOk result
+            (levels_of self.new ≡ more_text (chunk_of chunk.entry) (levels_of self.old)) }
+    {
+        let count = self.items.len();
+        if count == 0 {
+            return Ok(());
+        }
+        let open = &mut self.items[count - 1];
+        chunk.write(&mut open.text)
     }
 }

@@ -279,6 +279,28 @@ fn other_faults(rt: HostRuntime) {
     }
 }
 
+// Each kind of fault where it can stand last: in the last piece, or at the text's end. A limit's rows
+// stand in `limits`.
+#[test]
+fn last_faults(rt: HostRuntime) {
+    for (text, want) in [
+        ("<p>a</p>\u{0}", "lexical 8"),
+        ("<p>a</p>&#0;", "lexical 8"),
+        ("<p>a</p><", "lexical 8"),
+        ("<p>a</p><br", "lexical 8"),
+        ("<p>a</p><!-- -", "lexical 8"),
+        ("<p>a</p><!doctype", "lexical 8"),
+        ("<p>a</p><title>", "element 8"),
+        ("<p>a</p><input type=email>", "email 8"),
+        ("<p>a</p></p>", "nesting 8"),
+        ("<p>a</p><option>", "nesting 8"),
+        ("<p>a</p><b>", "nesting 11"),
+        ("<p>a</p><textarea>&lt;", "nesting 22"),
+    ] {
+        assert!(rt; gives(rt.alloc(), text, want), "{text}");
+    }
+}
+
 #[test]
 fn inside_elements(rt: HostRuntime) {
     for (text, around, want) in [
@@ -347,5 +369,24 @@ fn limits(rt: HostRuntime) -> Result<(), Fail> {
     assert!(rt; has_elements(alloc, &value, 1));
     let long = repeated(alloc, "<br b a='", "x", MOST_VALUE + 1, "'>")?;
     assert!(rt; gives(alloc, &long, "limit 0"));
+    Ok(())
+}
+
+// An email fault and a fault of limits where a tag has all the attributes that it may have.
+#[test]
+fn full_tags(rt: HostRuntime) -> Result<(), Fail> {
+    let alloc = rt.alloc();
+    let full = repeated(alloc, "<input", " a=b", MOST_ATTRIBUTES - 1, " type=email>")?;
+    assert!(rt; gives(alloc, &full, "email 0"));
+    let past = repeated(alloc, "<input", " a=b", MOST_ATTRIBUTES, " type=email>")?;
+    assert!(rt; gives(alloc, &past, "limit 0"));
+    let second = repeated(
+        alloc,
+        "<input type=text",
+        " a=b",
+        MOST_ATTRIBUTES - 2,
+        " type=email>",
+    )?;
+    assert!(rt; gives(alloc, &second, "- input type=\"text\" a=\"b\" '';"));
     Ok(())
 }

@@ -1,5 +1,5 @@
 -- What a page that is taken is, and what is known of one that is not.
-use Rattle.std.proofs.Common.{◌≡◌, ℕ, zero, suc, ◌-◌, List, [], ◌∷◌, Bool, true, false, length, Result, Ok, Err, cond, refl, sym, ap, subst, ◌∙◌, inl, inr}
+use Rattle.std.proofs.Common.{◌≡◌, ℕ, List, [], Bool, true, false, Result, Ok, Err, cond, refl, sym, ap, subst, ◌∙◌, inl, inr}
 use Rattle.std.specs.Prelude.{◌⊎◌, IsUtf8, codes}
 use Rattle.std.specs.Str.{is_utf8}
 use Rattle.std.specs.Str.Lossy.{utf8_valid_len}
@@ -7,48 +7,18 @@ use Rattle.std.proofs.lemmas.Str.{is_utf8-from_IsUtf8}
 use Rattle.form_text.specs.LineEnds.{with_lf}
 use Rattle.form_tree.specs.declared.node.Raw.{Raw}
 use Rattle.form_tree.specs.declared.node.Tag.{Tag}
-use Rattle.form_markup.specs.Answer.{answer_of, end_answer, rest_answer, turn_answer}
-use Rattle.form_markup.specs.Machine.{Level, State, state, turn}
+use Rattle.form_markup.specs.Answer.{answer_of}
 use Rattle.form_markup.specs.Spelling.{IsRead}
-use Rattle.form_markup.specs.declared.fault.Fault.{Fault}
-use Rattle.form_markup.specs.declared.fault.Fault.TheVariants as faults
+use Rattle.form_tokens.specs.declared.fault.Fault.TheVariants as faults
 use Rattle.form_markup.specs.declared.fault.PageFault.{PageFault}
 use Rattle.form_markup.specs.declared.fault.PageFault.TheVariants as pages
-use Rattle.form_markup.proofs.AnswerLaws.{answer_read}
+use Rattle.form_markup.proofs.AnswerLaws.{answer_never, answer_read}
 use Rattle.form_run.specs.Page.{is_first_page}
 use Rattle.form_run.specs.Input.{page_text}
 use Rattle.form_run.specs.Taken.{bad_page_line, page_in, page_of, page_taken, unbuilt_line, utf8_line}
 use Rattle.form_run.specs.Transcript.{HasFault, PageIs, SpellsPage, end_of, expected_end}
 use Rattle.form_run.specs.declared.top.Status.{Status}
 use Rattle.form_run.proofs.Texts.{is_utf8-not}
-
--- ---- the answer of a text is never that memory was refused
-
-abbrev NeverMemory : Result (List Raw) PageFault → Type 0
-NeverMemory (Err pages.Memory) = ⊥
-NeverMemory answer = Unit {0}
-
-rest_never : (n : ℕ) (around : List Tag) (size : ℕ) (m : State) (rest : List ℕ) → NeverMemory (rest_answer n around size m rest)
-rest_never n around size m [] = go m.levels
-  where
-    go : (levels : List Level) → NeverMemory (end_answer size levels m.raws)
-    go [] = tt
-    go (level ∷ levels) = tt
-rest_never zero around size m (b ∷ bs) = tt
-rest_never (suc n) around size m (b ∷ bs) = go (rest_never n around size) (turn around m (b ∷ bs))
-  where
-    go : ((next : State) (rest : List ℕ) → NeverMemory (rest_answer n around size next rest))
-        → (r : Result (State × List ℕ) Fault) → NeverMemory (turn_answer (rest_answer n around size) (size - length (b ∷ bs)) r)
-    go more (Ok x) = more x.0 x.1
-    go more (Err faults.Lexical) = tt
-    go more (Err faults.Limit) = tt
-    go more (Err faults.Element) = tt
-    go more (Err faults.Email) = tt
-    go more (Err faults.Nesting) = tt
-
-never : (text : List ℕ) → NeverMemory (answer_of [] text)
-unfolding answer_of
-never text = rest_never (length text) [] (length text) (state [] []) text
 
 -- ---- what is known of a page
 
@@ -58,20 +28,20 @@ Tells (Ok raws) text = SpellsPage true text
 Tells (Err line) text = HasFault text ⊎ SpellsPage false text
 
 pub tells : (text : List ℕ) → Tells (page_taken (answer_of [] text)) text
-tells text = go (answer_of [] text) (answer_read [] text) (never text)
+tells text = go (answer_of [] text) (answer_read [] text) (answer_never [] text)
   where
     test : (raws : List Raw) (b : Bool) → is_first_page raws ≡ b → IsRead [] text (Ok raws) → Tells (cond b (Ok raws) (Err unbuilt_line)) text
     test raws true e spelled = (raws, spelled, e)
     test raws false e spelled = inr (raws, spelled, e)
 
-    go : (answer : Result (List Raw) PageFault) → IsRead [] text answer → NeverMemory answer → Tells (page_taken answer) text
+    go : (answer : Result (List Raw) PageFault) → IsRead [] text answer → (answer ≡ Err pages.Memory → ⊥) → Tells (page_taken answer) text
     go (Ok raws) read some = test raws (is_first_page raws) refl read
     go (Err (pages.Lexical place)) read some = inl (faults.Lexical, place, read)
     go (Err (pages.Limit place)) read some = inl (faults.Limit, place, read)
     go (Err (pages.Element place)) read some = inl (faults.Element, place, read)
     go (Err (pages.Email place)) read some = inl (faults.Email, place, read)
     go (Err (pages.Nesting place)) read some = inl (faults.Nesting, place, read)
-    go (Err pages.Memory) read some = absurd some
+    go (Err pages.Memory) read some = absurd (some refl)
 
 -- ---- the page of an input
 

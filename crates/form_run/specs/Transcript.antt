@@ -7,7 +7,7 @@ use Rattle.url.specs.Parser.{parse_url}
 use Rattle.url.specs.Parts.{Parts}
 use Rattle.form_tree.specs.declared.node.Raw.{Raw}
 use Rattle.form_markup.specs.Spelling.{IsFault, Spells}
-use Rattle.form_markup.specs.declared.fault.Fault.{Fault}
+use Rattle.form_tokens.specs.declared.fault.Fault.{Fault}
 use Rattle.form_run.specs.Lines.{line_then}
 use Rattle.form_run.specs.Input.{command_lines}
 use Rattle.form_run.specs.Page.{is_first_page}

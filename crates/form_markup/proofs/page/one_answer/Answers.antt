@@ -1,4 +1,4 @@
-use Rattle.form_markup.proofs.AnswerLaws.{answer_read}
+use Rattle.form_markup.proofs.AnswerLaws.{answer_never, answer_read}
 use Rattle.form_markup.proofs.Once.{once, one_fault, apart}
 use Rattle.form_markup.proofs.page.one_answer.Goals as goal
 
@@ -13,3 +13,6 @@ returns-clause-apart c = apart
 
 pub returns-clause-answer : goal.returns-clause-answer
 returns-clause-answer c = answer_read
+
+pub returns-clause-never : goal.returns-clause-never
+returns-clause-never c = answer_never

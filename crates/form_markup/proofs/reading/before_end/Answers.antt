@@ -1,6 +1,6 @@
 use Rattle.std.proofs.Common.{length, arith}
 use Rattle.memchr.specs.Find.{is_byte}
-use Rattle.form_markup.proofs.Numbers.{front_before}
+use Rattle.form_tokens.proofs.Laws.{front_before}
 use Rattle.form_markup.proofs.reading.before_end.Goals as goal
 
 pub returns-in-Some-clause-value : goal.returns-in-Some-clause-value

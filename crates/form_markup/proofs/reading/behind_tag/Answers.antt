@@ -1,5 +1,5 @@
 use Rattle.std.proofs.Common.{sym, arith, ◌∙◌}
-use Rattle.form_markup.proofs.Boundaries.{after_first}
+use Rattle.form_tokens.proofs.Laws.{after_first}
 use Rattle.form_markup.proofs.reading.behind_tag.Goals as goal
 
 pub split_at-requires : goal.split_at-requires

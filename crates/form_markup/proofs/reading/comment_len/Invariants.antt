@@ -1,6 +1,9 @@
-use Rattle.std.proofs.Common.{◌≡◌, ◌+◌, drop, option_map}
-use Rattle.form_markup.specs.Pieces.{comment_len}
+use Rattle.std.proofs.Common.{◌+◌, ◌-◌, ◌≤◌, length}
+use Rattle.form_markup.proofs.Comments.{NoneBy}
 use Rattle.form_markup.proofs.reading.comment_len.Given as goal
 
-abbrev pub invariant-loop-i : goal.invariant-loop-i
-invariant-loop-i l = option_map (λ n. l.i + n) (comment_len (drop l.i l.bytes)) ≡ comment_len l.bytes
+abbrev pub invariant-ends : goal.invariant-ends
+invariant-ends l = (l.done ≤ length l.bytes + 1) × NoneBy l.bytes l.done
+
+abbrev pub decreases-ends : goal.decreases-ends
+decreases-ends l = length l.bytes - l.done

@@ -1,5 +1,6 @@
 use Rattle.form_markup.specs.Pieces.{is_before_end}
-use Rattle.form_markup.proofs.Boundaries.{before_stop, before_end_low}
+use Rattle.form_tokens.proofs.Laws.{before_stop}
+use Rattle.form_markup.proofs.Texts.{before_end_low}
 use Rattle.form_markup.proofs.reading.doctype_of.Goals as goal
 
 pub split_at-requires : goal.split_at-requires

@@ -1,6 +1,7 @@
 use Rattle.std.proofs.Common.{subst}
-use Rattle.form_markup.specs.Machine.{Gives, piece_of}
-use Rattle.form_markup.proofs.Kept.{start_law}
+use Rattle.form_tokens.specs.Readers.{Gives}
+use Rattle.form_markup.specs.Machine.{piece_of}
+use Rattle.form_markup.proofs.Tags.{start_law}
 use Rattle.form_markup.proofs.reading.start_of.Goals as goal
 
 pub returns : goal.returns

@@ -1,6 +1,0 @@
-use Rattle.std.proofs.Common.{◌≡◌, ◌+◌, drop}
-use Rattle.form_markup.specs.Pieces.{run_len}
-use Rattle.form_markup.proofs.cursor.run_len.Given as goal
-
-abbrev pub invariant-loop-i : goal.invariant-loop-i
-invariant-loop-i l = l.i + run_len l.class (drop l.i l.bytes) ≡ run_len l.class l.bytes

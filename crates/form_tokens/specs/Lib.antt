@@ -1,0 +1,7 @@
+pub mod Bytes
+pub mod Readers
+pub mod Runs
+pub mod References
+pub mod Characters
+pub mod Attributes
+pub mod Kept

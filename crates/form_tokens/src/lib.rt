@@ -1,0 +1,27 @@
+//! The smaller parts of markup: runs of bytes, references, characters and the attributes of a tag.
+//!
+//! Each reader takes what stands at the front of a text and gives what stands behind it. What it
+//! gives is what its definition in `specs/` says, or the one fault that markup has below the level
+//! of pieces, or memory was refused.
+#![tactic(auto)]
+
+mod attributes;
+mod characters;
+mod chunk;
+mod class;
+mod cursor;
+mod fault;
+mod references;
+
+pub use attributes::{Attributes, attributes_of};
+pub use characters::{chunk_of, closes_textarea};
+pub use chunk::{Chunk, Context};
+pub use class::Class;
+pub use cursor::{after_byte, begins, begins_letter, behind_space, run_of};
+pub use fault::{Fault, Stop};
+
+/// The most attributes of a tag, counted as they are written.
+pub const MOST_ATTRIBUTES: usize = 64;
+
+/// The most bytes of the value of an attribute, decoded.
+pub const MOST_VALUE: usize = 1_048_576;

@@ -1,21 +1,16 @@
 -- A piece takes at least one byte.
-use Rattle.std.proofs.Common.{◌≡◌, ℕ, zero, suc, ◌<◌, ◌≤◌, List, [], ◌∷◌, length, take, drop, Option, Some, None, Result, Ok, Err, Bool, true, false, refl, subst, arith, length-drop, if◌then◌else◌, nat_lt, nat_eq, codes, ◌==◌, ◌&&◌}
-use Rattle.std.specs.Char.{encode_utf8, is_ascii_alphabetic}
+use Rattle.std.proofs.Common.{◌≡◌, ℕ, ◌<◌, ◌≤◌, List, length, drop, Option, Some, None, Result, Ok, Err, Bool, true, false, arith, length-drop, if◌then◌else◌, nat_eq, codes, ◌&&◌}
+use Rattle.std.specs.Char.{is_ascii_alphabetic}
 use Rattle.std.specs.List.{prefix_len, starts_with}
-use Rattle.std.specs.Str.Parse.{digits_value}
-use Rattle.std.proofs.lemmas.Bool.{ltb-true}
-use Rattle.std.proofs.lemmas.List.Sums.{prefix_len-le-length}
 use Rattle.form_markup.specs.Contents.{Piece}
 use Rattle.form_markup.specs.Faults.{Outer}
-use Rattle.form_tokens.specs.Readers.{◌>>=◌, many}
-use Rattle.form_tokens.specs.Attributes.{attribute_at, attributes_at, begins_attribute, quoted_at, value_at, value_if_there}
-use Rattle.form_tokens.specs.Runs.{begins, begins_so, behind, behind_space, in_class, run_at, run_len}
-use Rattle.form_tokens.specs.Characters.{begins_shown, chunk_at, closes_textarea, decoded, is_reference, shown_at, shown_len}
+use Rattle.form_tokens.specs.Readers.{◌>>=◌}
+use Rattle.form_tokens.specs.Attributes.{attribute_at, attributes_at, begins_attribute}
+use Rattle.form_tokens.specs.Runs.{begins, begins_so, behind, behind_space, run_at}
+use Rattle.form_tokens.specs.Characters.{chunk_at, closes_textarea}
 use Rattle.form_markup.specs.Pieces.{behind_ignored, behind_tag, characters_at, comment_at, comment_len, doctype_at, end_at, ignored_at, is_before_end, is_doctype, is_in_textarea, is_textarea, is_void, piece_at, piece_in, raw_at, start_at, tag_at, tag_end}
-use Rattle.form_tokens.specs.References.{character, named, named_at, number_at, numeric_at, reference_at}
 use Rattle.form_tokens.specs.declared.fault.Fault.{Fault}
 use Rattle.form_tokens.specs.declared.fault.Fault.TheVariants.{Lexical}
-use Rattle.form_tokens.specs.declared.class.Class.{Class}
 use Rattle.form_tokens.specs.declared.class.Class.TheVariants as classes
 use Rattle.form_tokens.specs.declared.chunk.Context.{Context}
 use Rattle.form_tokens.specs.declared.chunk.Context.TheVariants as contexts

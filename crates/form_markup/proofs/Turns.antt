@@ -11,7 +11,7 @@ use Rattle.form_tokens.specs.declared.fault.Fault.{Fault}
 use Rattle.form_markup.specs.Contents.{Piece, Characters}
 use Rattle.form_markup.specs.Faults.{fault_of}
 use Rattle.form_markup.specs.Machine.{State, after, judged, more_text, outers_of, state, turn}
-use Rattle.form_markup.specs.Pieces.{characters_at, is_in_textarea, piece_at, piece_in, raw_at, tag_at}
+use Rattle.form_markup.specs.Pieces.{characters_at, is_in_textarea, piece_at, raw_at, tag_at}
 use Rattle.form_markup.specs.Turns.{inside_turn, outside_turn, tag_turn, text_turn}
 
 -- what is read is judged and taken

@@ -1,7 +1,7 @@
 use Rattle.std.proofs.Common.{◌≡◌, ℕ, List, ◌-◌, ◌+◌, ◌<◌, ◌≤◌, ◌++◌, length, string_bytes, ap, arith, ◌∙◌}
 use Rattle.std.proofs.lemmas.Result.{on_ok_weaker}
 use Rattle.form_tokens.specs.Characters.{chunk_of}
-use Rattle.form_markup.specs.Machine.{Level, level_of, levels_of, more_text, with_more}
+use Rattle.form_markup.specs.Machine.{Level, levels_of, more_text}
 use Rattle.form_markup.specs.declared.machine.Open.{Open}
 use Rattle.form_markup.proofs.Stacks.{more_last}
 use Rattle.form_markup.proofs.stack.Stack+Open.write.Goals as goal

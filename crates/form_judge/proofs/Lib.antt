@@ -1,1 +1,4 @@
+pub mod FlagLaws
+pub mod KindLaws
+pub mod Laws
 pub mod ValueLaws

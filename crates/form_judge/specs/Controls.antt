@@ -30,7 +30,7 @@ text_where applies name n = if applies then attr_in n.attrs name else None
 
 -- The value of an input in the mode value, which is the one that it keeps, and of a textarea (HTML,
 -- "Common input element APIs", and "The textarea element", "API value"). No flag reads another's
--- (`own_value_is` of proofs/Laws: it is the control's value on every page).
+-- (`input_value` and `textarea_value` of proofs/Laws: it is the control's value on every page).
 abbrev pub own_value : Node → List ℕ
 own_value n = if is_textarea n then with_lf n.state.value else n.state.value
 

@@ -116,14 +116,14 @@ abbrev pub suffers_from_being_too_long : Node → Bool
 suffers_from_being_too_long n =
     is_user_edited n
     && option_map_or (λ most. nat_lt most (utf16_length (own_value n)))
-        (allowed_length attributes.Maxlength (codes "maxlength") n) false
+    (allowed_length attributes.Maxlength (codes "maxlength") n) false
 
 -- Suffering from being too short (HTML, "The maxlength and minlength attributes").
 abbrev pub suffers_from_being_too_short : Node → Bool
 suffers_from_being_too_short n =
     is_user_edited n && not (is_empty_text (own_value n))
     && option_map_or (λ least. nat_lt (utf16_length (own_value n)) least)
-        (allowed_length attributes.Minlength (codes "minlength") n) false
+    (allowed_length attributes.Minlength (codes "minlength") n) false
 
 -- ---- suffering from a range or a step
 

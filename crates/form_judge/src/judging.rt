@@ -101,7 +101,7 @@ fn node_of(tree: &Tree, key: Key) -> &Node
 
 // The flags of a control, by its node and the facts.
 #[tactic(auto, unfolding(crate::specs::Flags::flags_of))]
-fn flags_of(
+pub(crate) fn flags_of(
     alloc: Global,
     node: &Node,
     facts: &Facts,
@@ -133,11 +133,7 @@ fn flags_of(
 /// The compiled pattern of an element, that is of its `pattern` attribute (HTML, "The pattern
 /// attribute"). None where it is no input in a state to which the attribute applies, has no such
 /// attribute, or has one that does not compile.
-pub fn compile_pattern(
-    alloc: Global,
-    tree: &Tree,
-    key: Key,
-) -> Result<Option<Pattern>, AllocError>
+pub fn compile_pattern(alloc: Global, tree: &Tree, key: Key) -> Result<Option<Pattern>, AllocError>
     ensures { IfOk result (λ pattern. pattern ≡ pattern_at tree.now.nodes key) }
 {
     match tree.node(key) {
@@ -146,7 +142,7 @@ pub fn compile_pattern(
     }
 }
 
-fn compile_own(alloc: Global, node: &Node) -> Result<Option<Pattern>, AllocError>
+pub(crate) fn compile_own(alloc: Global, node: &Node) -> Result<Option<Pattern>, AllocError>
     ensures { IfOk result (λ pattern. pattern ≡ pattern_of node.now) }
 {
     match pattern_text(node) {

@@ -16,6 +16,8 @@ mod mismatches;
 mod missing;
 mod ranges;
 mod steps;
+#[cfg(test)]
+mod tests;
 
 pub use control::kind_of;
 pub use flags::{Facts, Flags};

@@ -61,8 +61,7 @@ fn is_read_only(node: &Node, kind: Kind) -> bool
     requires { kind ≡ kind_of node.now }
     ensures { result ≡ is_read_only node.now }
 {
-    node.has_attr("readonly")
-        && (is_textarea(node) || applies_to_input(node, kind, Attr::Readonly))
+    node.has_attr("readonly") && (is_textarea(node) || applies_to_input(node, kind, Attr::Readonly))
 }
 
 fn lacks_check(node: &Node) -> bool

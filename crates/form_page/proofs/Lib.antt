@@ -1,0 +1,9 @@
+mod CandidateLaws
+mod ChangeLaws
+mod EditLaws
+mod Lists
+mod MemberLaws
+mod OwnerLaws
+mod RadioLaws
+mod SelectLaws
+mod StateLaws

@@ -6,8 +6,10 @@ use Rattle.form_tree.specs.declared.node.Key.{Key}
 use Rattle.form_tree.specs.declared.node.Node.{Node}
 use Rattle.form_tree.specs.Tree.{Nodes, IsTree, at_key}
 use Rattle.form_page.specs.Changes.{changed_keys, same_sights}
+use Rattle.form_page.specs.declared.sight.Sight.{Sight}
 use Rattle.form_page.specs.Page.{Page, names_of}
 use Rattle.form_page.specs.Views.{changes, is_changed, same_views, sight_at, sight_if, view_by, view_of}
+use Rattle.form_page.proofs.EditLaws.{frame, keys_same}
 use Rattle.form_page.proofs.MemberLaws.{all_own}
 
 abbrev keys : Nodes → List Key
@@ -46,3 +48,12 @@ module _ (before after : Page) where
   pub changes_found : IsTree before.tree.nodes → IsTree after.tree.nodes → keys before.tree.nodes ≡ keys after.tree.nodes
       → changed_keys after.tree.nodes (map (sight_if (names_of before.files) before.tree.nodes) before.tree.nodes) (map (sight_if (names_of after.files) after.tree.nodes) after.tree.nodes) ≡ changes before after
   changes_found tree_before tree_after same = by_place before.tree.nodes after.tree.nodes same (all_own before.tree.nodes tree_before) (all_own after.tree.nodes tree_after)
+
+pub keys_found : (before after : Page) (nodes : Nodes) (seen_before seen_after : List (Option Sight)) → IsTree before.tree.nodes → IsTree after.tree.nodes → map frame after.tree.nodes ≡ map frame before.tree.nodes → nodes ≡ after.tree.nodes
+    → seen_before ≡ map (sight_if (names_of before.files) before.tree.nodes) before.tree.nodes → seen_after ≡ map (sight_if (names_of after.files) after.tree.nodes) after.tree.nodes
+    → changed_keys nodes seen_before seen_after ≡ changes before after
+keys_found before after nodes seen_before seen_after tree_before tree_after same are is_before is_after =
+    ap (λ (ns : Nodes). changed_keys ns seen_before seen_after) are
+    ∙ ap (λ (s : List (Option Sight)). changed_keys after.tree.nodes s seen_after) is_before
+    ∙ ap (λ (s : List (Option Sight)). changed_keys after.tree.nodes (map (sight_if (names_of before.files) before.tree.nodes) before.tree.nodes) s) is_after
+    ∙ changes_found before after tree_before tree_after (keys_same before.tree.nodes after.tree.nodes same)

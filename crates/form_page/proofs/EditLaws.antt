@@ -2,17 +2,19 @@
 use Rattle.std.proofs.Common.{◌≡◌, ℕ, zero, suc, ◌+◌, ◌<◌, Bool, true, false, cond, List, [], ◌∷◌, ◌++◌, length, map, get_or, Option, Some, None, IsSome, IfSome, refl, sym, ap, ◌∙◌, subst, arith}
 use Rattle.std.specs.Prelude.{reverse}
 use Rattle.std.specs.List.{count_by, filter}
+use Rattle.std.proofs.lemmas.List.{length-map, reverse-append}
 use Rattle.std.proofs.lemmas.List.Sums.{length-filter}
 use Rattle.form_tree.specs.declared.node.Key.{Key}
 use Rattle.form_tree.specs.declared.node.Node.{Node}
 use Rattle.form_tree.specs.Attributes.{set_attr}
 use Rattle.form_tree.specs.Elements.{is_submittable}
-use Rattle.form_tree.specs.Tree.{Nodes, is_key, place_in, place_of, shape_of, with_node}
+use Rattle.form_tree.specs.Tree.{Nodes, Tree, is_key, place_in, place_of, shape_of, with_node}
 use Rattle.form_tree.proofs.Laws.{place_in_shape}
 use Rattle.form_page.specs.declared.edit.Edit.{Edit}
 use Rattle.form_page.specs.declared.edit.Edit.TheVariants.{Attr, Gone, Put, Text}
-use Rattle.form_page.specs.Editing.{AreThere, after_edit, edited, edited_key, nodes_after}
-use Rattle.form_page.specs.Page.{Page}
+use Rattle.form_page.specs.Editing.{AreThere, after_edit, edited, edited_key, files_after, nodes_after}
+use Rattle.form_page.specs.declared.file.File.{File}
+use Rattle.form_page.specs.Page.{Page, page_of}
 
 -- each node with its key, its parent and whether it is submittable
 abbrev pub frame : Node → Key × Option Key × Bool
@@ -68,3 +70,45 @@ count_through ns = sym (length-filter is_submittable ns) ∙ kept_through ns ∙
 
 pub count_same : (before after : Nodes) → map frame after ≡ map frame before → count_by is_submittable after ≡ count_by is_submittable before
 count_same before after same = count_through after ∙ ap (count_by marked) same ∙ sym (count_through before)
+
+-- ---- one change more
+
+pub edit_made : (tree next : Tree) (files left : List File) (edit : Edit) → next ≡ record tree { nodes = nodes_after tree.nodes edit } → left ≡ files_after files edit → page_of next left ≡ after_edit (page_of tree files) edit
+edit_made tree next files left edit one two = rw (one, two) refl
+
+turned : (edits rest : List Edit) (edit : Edit) → edits ≡ rest ++ edit ∷ [] → reverse edits ≡ edit ∷ reverse rest
+turned edits rest edit is = ap (λ (es : List Edit). reverse es) is ∙ reverse-append rest (edit ∷ [])
+
+pub edits_step : (page next final : Page) (edits rest : List Edit) (edit : Edit) → edits ≡ rest ++ edit ∷ [] → next ≡ after_edit page edit → edited page (reverse edits) ≡ final → edited next (reverse rest) ≡ final
+edits_step page next final edits rest edit is made so_far =
+    ap (λ (p : Page). edited p (reverse rest)) made ∙ sym (ap (edited page) (turned edits rest edit is)) ∙ so_far
+
+abbrev IsThere : Nodes → Edit → Type 0
+IsThere ns edit = IfSome (edited_key edit) (λ k. IsSome (place_of ns k))
+
+pub still_there : (ns next : Nodes) (edits rest : List Edit) (edit : Edit) → edits ≡ rest ++ edit ∷ [] → next ≡ nodes_after ns edit → AreThere ns (reverse edits) → AreThere next (reverse rest)
+still_there ns next edits rest edit is made there i d lt =
+    let all : AreThere ns (edit ∷ reverse rest) = subst (AreThere ns) (turned edits rest edit is) there in
+    moved (get_or (reverse rest) i d) (all (suc i) d (omega arith))
+  where
+    same : (k : Key) → place_of next k ≡ place_of ns k
+    same k = place_same ns next (ap (map frame) made ∙ frame_kept ns edit) k
+
+    moved : (e : Edit) → IsThere ns e → IsThere next e
+    moved e h = go (edited_key e) h
+      where
+        go : (o : Option Key) → IfSome o (λ k. IsSome (place_of ns k)) → IfSome o (λ k. IsSome (place_of next k))
+        go None h = h
+        go (Some k) h = subst (λ (p : Option ℕ). IsSome p) (sym (same k)) h
+
+-- ---- the page after its changes
+
+pub edited_frames : (before : Nodes) (tree next : Tree) (files left : List File) (edits : List Edit) → tree.nodes ≡ before → page_of next left ≡ edited (page_of tree files) edits → map frame next.nodes ≡ map frame before
+edited_frames before tree next files left edits same made =
+    ap (λ (p : Page). map frame p.tree.nodes) made ∙ frames_kept (page_of tree files) edits ∙ ap (map frame) same
+
+pub frames_long : (before after : Nodes) → map frame after ≡ map frame before → length after ≡ length before
+frames_long before after same = sym (length-map after frame) ∙ ap length same ∙ length-map before frame
+
+pub frames_few : (before after : Nodes) (most : ℕ) → map frame after ≡ map frame before → length before < most → length after < most
+frames_few before after most same few = let long = frames_long before after same in omega (arith, long, few)

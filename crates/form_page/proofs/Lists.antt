@@ -8,14 +8,11 @@ use Rattle.std.proofs.lemmas.List.Folds.{list_any-append}
 -- what passes one test passes the other
 pub any_more : {X : Type 0} (p q : X → Bool) → ((x : X) → p x ≡ true → q x ≡ true) → (xs : List X) → list_any p xs ≡ true → list_any q xs ≡ true
 any_more p q more [] h = h
-any_more p q more (x ∷ xs) h = go (p x) refl h
+any_more p q more (x ∷ xs) h = go (any_more p q more xs) (p x) refl h
   where
-    rest : list_any p xs ≡ true → list_any q xs ≡ true
-    rest h = any_more p q more xs h
-
-    go : (b : Bool) → p x ≡ b → (b || list_any p xs) ≡ true → (q x || list_any q xs) ≡ true
-    go true e h = rw (more x e) refl
-    go false e h = or_right (q x) (list_any q xs) (rest h)
+    go : (list_any p xs ≡ true → list_any q xs ≡ true) → (b : Bool) → p x ≡ b → (b || list_any p xs) ≡ true → (q x || list_any q xs) ≡ true
+    go rest true e h = rw (more x e) refl
+    go rest false e h = or_right (q x) (list_any q xs) (rest h)
 
 -- what stands from a place on
 pub drop_here : {X : Type 0} (xs : List X) (i : ℕ) (d x : X) → i < length xs → x ≡ get_or xs i d → drop i xs ≡ x ∷ drop (suc i) xs

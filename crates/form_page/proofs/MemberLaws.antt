@@ -1,6 +1,6 @@
 -- Radio buttons as members of their groups.
 use Rattle.std.proofs.Common.{◌≡◌, ◌≢◌, ℕ, zero, suc, ◌+◌, ◌<◌, ◌≤◌, Bool, true, false, ◌||◌, ◌&&◌, not, cond, List, [], ◌∷◌, ◌++◌, length, map, take, drop, get_or, Option, Some, None, IfSome, inl, inr, refl, sym, ap, ◌∙◌, subst, arith, length-drop, add-one, ltb}
-use Rattle.std.specs.Prelude.{reverse, codes, unwrap_or}
+use Rattle.std.specs.Prelude.{reverse, codes, unwrap_or, ◌==◌}
 use Rattle.std.specs.List.{All, filter, find, list_any, list_all, slice_get}
 use Rattle.std.specs.Option.{option_map, option_map_or, option_and_then}
 use Rattle.std.specs.Str.{bytes_eq}
@@ -20,8 +20,8 @@ use Rattle.form_tree.specs.RadioGroup.{is_checked, is_group_missing, is_radio, i
 use Rattle.form_tree.specs.Tree.{Nodes, IsTree, at_key, attr_of, is_key, parent_of, place_of, shape_of}
 use Rattle.form_tree.proofs.Laws.{at_place, key_same, same_key-refl}
 use Rattle.form_groups.specs.declared.group.Member.{Member}
-use Rattle.form_groups.specs.Groups.{is_missing, keys_of, member_of, same_group}
-use Rattle.form_page.specs.Members.{is_in_group, members_among}
+use Rattle.form_groups.specs.Groups.{Entries, IsGroup, group_of, is_missing, keys_of, member_of, same_group}
+use Rattle.form_page.specs.Members.{AreGroupsAmong, is_in_group, members_among}
 use Rattle.form_page.proofs.OwnerLaws.{at_own_key}
 
 -- ---- keys of owners are from 1
@@ -86,6 +86,21 @@ owner_numbered ns tree k = listed (passes is_listed ns k)
     listed : (b : Bool) → IsNumbered (cond b (owner_by ns k (attr_of ns k (codes "form"))) None)
     listed true = by (attr_of ns k (codes "form"))
     listed false = tt
+
+-- a name that is not empty, and an owner, name a group
+filled : (name : List ℕ) → false ≡ (length name == 0) → 0 < length name
+filled name h = grind (arith, nat_tests, h)
+
+pub is_group : (ns : Nodes) → IsTree ns → (k : Key) (owner : Option Key) (name : List ℕ) → owner ≡ owner_of ns k → false ≡ (length name == 0) → IsGroup owner name
+is_group ns tree k owner name owns h = (subst IsNumbered (sym owns) (owner_numbered ns tree k), filled name h)
+
+pub empty_name : (name : List ℕ) → true ≡ (length name == 0) → is_empty_text name ≡ true
+empty_name [] h = refl
+empty_name (b ∷ bs) h = absurd (grind (arith, nat_tests, h))
+
+pub filled_name : (name : List ℕ) → false ≡ (length name == 0) → is_empty_text name ≡ false
+filled_name [] h = absurd (grind (arith, nat_tests, h))
+filled_name (b ∷ bs) h = refl
 
 -- ---- one more element
 
@@ -227,3 +242,17 @@ module _ (ns : Nodes) (tree : IsTree ns) (n : Node) (own : at_key ns n.key ≡ S
   alone_lacks empty =
       let same = filter_own ns (λ (m : Node). share_group ns n.key m.key) (is_key n.key) (alone empty) ns (all_own ns tree) in
       rw (same, any_there is_required, any_there is_checked) refl
+
+  pub alone_required : is_empty_text (name_of ns n.key) ≡ true → true ≡ is_required n → not (is_checked n) ≡ is_group_missing ns n.key
+  alone_required empty required = ap (λ (b : Bool). b && not (is_checked n)) required ∙ sym (alone_lacks empty)
+
+  pub alone_optional : is_empty_text (name_of ns n.key) ≡ true → false ≡ is_required n → false ≡ is_group_missing ns n.key
+  alone_optional empty optional = ap (λ (b : Bool). b && not (is_checked n)) optional ∙ sym (alone_lacks empty)
+
+  -- what the entered group lacks
+  pub entered_lacks : (entries : Entries) → AreGroupsAmong ns entries ns → (owner : Option Key) (name : List ℕ) → owner ≡ owner_of ns n.key → name ≡ name_of ns n.key → false ≡ (length name == 0) → is_missing (group_of entries owner name) ≡ is_group_missing ns n.key
+  entered_lacks entries stand owner name owns named h =
+      ap is_missing (stand owner name (is_group ns tree n.key owner name owns h))
+      ∙ ap (λ (o : Option Key). is_missing (members_among ns o name ns)) owns
+      ∙ ap (λ (s : List ℕ). is_missing (members_among ns (owner_of ns n.key) s ns)) named
+      ∙ group_lacks (subst (λ (s : List ℕ). is_empty_text s ≡ false) named (filled_name name h))

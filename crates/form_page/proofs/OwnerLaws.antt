@@ -18,6 +18,9 @@ use Rattle.form_owner.specs.Owners.{answer_for, owners_of}
 pub at_own_key : (ns : Nodes) → IsTree ns → (i : ℕ) (n : Node) → i < length ns → n ≡ get_or ns i n → at_key ns n.key ≡ Some n
 at_own_key ns tree i n below read = (at_place ns tree i n (slice_get-get_or ns i n below ∙ ap (λ (m : Node). Some m) (sym read))).0
 
+pub read_there : (ns : Nodes) (i : ℕ) (n : Node) → i < length ns → n ≡ get_or ns i n → slice_get ns i ≡ Some n
+read_there ns i n below read = slice_get-get_or ns i n below ∙ ap (λ (m : Node). Some m) (sym read)
+
 -- where a key stands, there is its element
 pub placed_node : (ns : Nodes) (k : Key) (i : ℕ) → Some i ≡ place_of ns k → (m : Node) × (slice_get ns i ≡ Some m) × (at_key ns k ≡ Some m) × (m.key ≡ k)
 placed_node ns k i placed = go (slice_get ns i) refl
@@ -35,21 +38,21 @@ placed_node ns k i placed = go (slice_get ns i) refl
 
 -- what is kept of each element, at the place of one
 pub kept_there : {X : Type 0} (f : Node → X) (ns : Nodes) (i : ℕ) (m : Node) (x : X) → slice_get ns i ≡ Some m → get_or (map f ns) i x ≡ f m
-kept_there f ns i m x there = get_or_from_slice_get (map f ns) i x (f m) (slice_get-map f ns i ∙ ap (option_map f) there)
+kept_there f ns i m x there = get_or_from_slice_get (map f ns) i (f m) x (slice_get-map f ns i ∙ ap (option_map f) there)
 
 pub unplaced : (ns : Nodes) (k : Key) → None ≡ place_of ns k → at_key ns k ≡ None
 unplaced ns k none = at_key_place ns k ∙ ap (option_and_then (slice_get ns)) (sym none)
 
-pub owner_placed : (ns : Nodes) (k : Key) (i : ℕ) (answers : List Answer) (a : Answer) → answers ≡ owners_of ns → Some i ≡ place_of ns k → a ≡ get_or answers i a → a.owner ≡ owner_of ns k
-owner_placed ns k i answers a stand placed read =
+pub owner_placed : (ns : Nodes) (k : Key) (i : ℕ) (answers : List Answer) (a : Answer) → answers ≡ owners_of ns → Some i ≡ place_of ns k → (get_or answers i a).owner ≡ owner_of ns k
+owner_placed ns k i answers a stand placed =
     let met = placed_node ns k i placed in
-    let is : a ≡ answer_for ns met.0 = read ∙ ap (λ (kept : List Answer). get_or kept i a) stand ∙ kept_there (answer_for ns) ns i met.0 a met.1 in
+    let is : get_or answers i a ≡ answer_for ns met.0 = ap (λ (kept : List Answer). get_or kept i a) stand ∙ kept_there (answer_for ns) ns i met.0 a met.1 in
     ap (λ (b : Answer). b.owner) is ∙ ap (owner_of ns) met.3
 
-pub disabled_placed : (ns : Nodes) (k : Key) (i : ℕ) (answers : List Answer) (a : Answer) → answers ≡ owners_of ns → Some i ≡ place_of ns k → a ≡ get_or answers i a → a.disabled ≡ is_disabled ns k
-disabled_placed ns k i answers a stand placed read =
+pub disabled_placed : (ns : Nodes) (k : Key) (i : ℕ) (answers : List Answer) (a : Answer) → answers ≡ owners_of ns → Some i ≡ place_of ns k → (get_or answers i a).disabled ≡ is_disabled ns k
+disabled_placed ns k i answers a stand placed =
     let met = placed_node ns k i placed in
-    let is : a ≡ answer_for ns met.0 = read ∙ ap (λ (kept : List Answer). get_or kept i a) stand ∙ kept_there (answer_for ns) ns i met.0 a met.1 in
+    let is : get_or answers i a ≡ answer_for ns met.0 = ap (λ (kept : List Answer). get_or kept i a) stand ∙ kept_there (answer_for ns) ns i met.0 a met.1 in
     ap (λ (b : Answer). b.disabled) is ∙ ap (is_disabled ns) met.3
 
 pub owner_unplaced : (ns : Nodes) (k : Key) → None ≡ place_of ns k → None ≡ owner_of ns k

@@ -1,7 +1,9 @@
 -- Of each radio button group the key of the last checked member is kept.
-use Rattle.std.proofs.Common.{◌≡◌, ℕ, Bool, true, false, ◌||◌, ◌&&◌, not, cond, List, [], ◌∷◌, ◌++◌, refl, sym, ap, ◌∙◌}
+use Rattle.std.proofs.Common.{◌≡◌, ℕ, suc, ◌+◌, ◌-◌, ◌<◌, Bool, true, false, ◌||◌, ◌&&◌, not, cond, List, [], ◌∷◌, ◌++◌, length, drop, get_or, refl, sym, ap, ◌∙◌, subst, arith}
+use Rattle.std.specs.Prelude.{reverse}
 use Rattle.std.specs.List.{list_any}
 use Rattle.std.proofs.lemmas.Bool.{and_parts, or_cases, or_left, or_right}
+use Rattle.std.proofs.lemmas.List.{reverse-append}
 use Rattle.std.proofs.lemmas.List.Folds.{list_any-append}
 use Rattle.form_tree.specs.declared.node.Key.{Key}
 use Rattle.form_tree.specs.declared.node.Node.{Node}
@@ -9,8 +11,8 @@ use Rattle.form_tree.specs.RadioGroup.{is_checked, share_group}
 use Rattle.form_tree.specs.Tree.{Nodes}
 use Rattle.form_tree.proofs.Laws.{group-sym, group_together}
 use Rattle.form_page.specs.Opening.{is_outdone}
-use Rattle.form_page.specs.States.{is_last_by, is_outdone_by, with_last_if}
-use Rattle.form_page.proofs.Lists.{any_more}
+use Rattle.form_page.specs.States.{is_last_by, is_outdone_by, outdone_of, with_last_if}
+use Rattle.form_page.proofs.Lists.{any_more, drop_here}
 
 -- a checked member of the group of the key
 abbrev pub is_checked_with : Nodes → Key → Node → Bool
@@ -48,3 +50,32 @@ module _ (ns behind : Nodes) (n : Node) (lasts : List Key) (stand : AreLasts ns 
       go false e some h = stand k
       go true e false h = last
       go true e true h = stand k ∙ absorbed (share_group ns k n.key) refl (sym (stand n.key) ∙ h)
+
+marks_more : (ns behind : Nodes) (n : Node) (lasts : List Key) (marks more : List Bool) → AreLasts ns lasts behind → marks ≡ reverse (outdone_of ns behind) → more ≡ marks ++ is_outdone_by ns n lasts ∷ [] → more ≡ reverse (outdone_of ns (n ∷ behind))
+marks_more ns behind n lasts marks more stand marked pushed =
+    pushed ∙ ap (λ (b : Bool). marks ++ b ∷ []) (outdone_is ns behind n lasts stand) ∙ ap (λ (bs : List Bool). bs ++ is_outdone ns n behind ∷ []) marked
+    ∙ sym (reverse-append (is_outdone ns n behind ∷ []) (outdone_of ns behind))
+
+drop_at : (xs : Nodes) (passed place : ℕ) (n : Node) → passed < length xs → place ≡ length xs - 1 - passed → n ≡ get_or xs place n → drop (length xs - (passed + 1)) xs ≡ n ∷ drop (length xs - passed) xs
+drop_at xs passed place n lt is read =
+    let here : length xs - (passed + 1) ≡ place = omega (arith, is, lt) in
+    let next : suc place ≡ length xs - passed = omega (arith, is, lt) in
+    ap (λ (i : ℕ). drop i xs) here ∙ drop_here xs place n n (omega (arith, is, lt)) read ∙ ap (λ (i : ℕ). n ∷ drop i xs) next
+
+-- one element more, going backwards
+pub outdone_step : (ns xs : Nodes) (passed place : ℕ) (n : Node) (marks more : List Bool) (lasts next : List Key) → passed < length xs → place ≡ length xs - 1 - passed → n ≡ get_or xs place n
+    → marks ≡ reverse (outdone_of ns (drop (length xs - passed) xs)) → AreLasts ns lasts (drop (length xs - passed) xs)
+    → more ≡ marks ++ is_outdone_by ns n lasts ∷ [] → next ≡ with_last_if (is_last_by ns n lasts) n.key lasts
+    → (more ≡ reverse (outdone_of ns (drop (length xs - (passed + 1)) xs))) × AreLasts ns next (drop (length xs - (passed + 1)) xs)
+outdone_step ns xs passed place n marks more lasts next lt is read marked stand pushed kept =
+    let at = drop_at xs passed place n lt is read in
+    let behind = drop (length xs - passed) xs in
+    (
+      marks_more ns behind n lasts marks more stand marked pushed ∙ ap (λ (ys : Nodes). reverse (outdone_of ns ys)) (sym at),
+      subst (AreLasts ns next) (sym at) (subst (λ (ks : List Key). AreLasts ns ks (n ∷ behind)) (sym kept) (one_more_last ns behind n lasts stand)),
+    )
+
+pub marks_long : (ns xs : Nodes) → length (outdone_of ns xs) ≡ length xs
+marks_long ns [] = refl
+marks_long ns (n ∷ xs) = ap (λ m. suc m) (marks_long ns xs)
+

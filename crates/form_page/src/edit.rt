@@ -53,10 +53,14 @@ pub fn make_edits(
     Ok(())
 }
 
-fn make_edit(tree: &mut Tree, files: &mut [File], edit: Edit) -> Result<(), AllocError>
+fn make_edit(
+    tree: &mut Tree,
+    files: &mut Vec<File>,
+    edit: Edit,
+) -> Result<(), AllocError>
     requires { IfSome (edited_key edit) (λ k. IsSome (place_of tree.old.nodes k)) }
     ensures tree { OnOk result (tree.new ≡ record tree.old { nodes = nodes_after tree.old.nodes edit }) }
-    ensures files { OnOk result (files.new ≡ files_after files.old edit) }
+    ensures files { OnOk result (files.new.items ≡ files_after files.old.items edit) }
 {
     match edit {
         Edit::Attr { key, name, value } => set_attr(tree, key, name, value),
@@ -92,8 +96,8 @@ fn set_attr(
 }
 
 // The file of that number is no longer there.
-fn leave(files: &mut [File], number: u32)
-    ensures { files.new ≡ without_file files.old number }
+fn leave(files: &mut Vec<File>, number: u32)
+    ensures { files.new.items ≡ without_file files.old.items number }
 {
     if number == 0 {
         return;

@@ -8,7 +8,7 @@ ghost use Rattle.form_tree.specs.Tree.{IsTree, at_key};
 ghost use Rattle.form_groups.specs.Groups.{IsGroup, group_of, keys_of};
 ghost use Rattle.form_judge.specs.Flags.{facts_of};
 ghost use Rattle.form_owner.specs.Owners.{owners_of};
-ghost use Rattle.form_page.specs.Members.{AreGroupsAmong, members_among};
+ghost use Rattle.form_page.specs.Members.{AreGroupsAmong, facts_at, members_among};
 
 use crate::elements::{is_radio, is_select};
 use crate::owners::{is_disabled, name_of, owner_of};
@@ -22,7 +22,7 @@ use std::alloc::{AllocError, Global};
 /// The facts of each element, in tree order.
 pub fn all_facts(alloc: Global, tree: &Tree, answers: &[Answer]) -> Result<Vec<Facts>, AllocError>
     requires { answers.now ≡ owners_of tree.now.nodes }
-    ensures { IfOk result (λ facts. facts.items ≡ map (λ n. facts_of tree.now.nodes n.key) tree.now.nodes) }
+    ensures { IfOk result (λ facts. facts.items ≡ map (facts_at tree.now.nodes) tree.now.nodes) }
 {
     let groups = groups_of(alloc, tree, answers)?;
     let nodes = tree.nodes();

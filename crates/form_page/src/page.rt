@@ -203,6 +203,7 @@ impl Page {
         ensures err { OnErr result (self.new ≡ self.old) }
         ensures bound { steps.new ≤ steps.old + count_by is_submittable self.old.tree.nodes }
     {
+        self.tree.len();
         let mut tree = self.tree.copy()?;
         let mut files = copy_of(&self.files)?;
         make_edits(&mut tree, &mut files, edits)?;

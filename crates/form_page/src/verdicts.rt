@@ -5,6 +5,7 @@ ghost use Rattle.form_tree.specs.Elements.{is_submittable};
 ghost use Rattle.form_tree.specs.Tree.{at_key};
 ghost use Rattle.form_judge.specs.Controls.{pattern_of};
 ghost use Rattle.form_judge.specs.Flags.{facts_of};
+ghost use Rattle.form_page.specs.Members.{facts_at};
 ghost use Rattle.form_page.specs.Views.{verdict_of};
 
 use crate::elements::is_submittable;
@@ -41,7 +42,7 @@ pub fn all_verdicts<L: Ledger>(
     patterns: &mut [Option<Pattern>],
     steps: &mut Steps<L>,
 ) -> Result<Vec<Option<Verdict>>, AllocError>
-    requires facts { facts.now ≡ map (λ n. facts_of tree.now.nodes n.key) tree.now.nodes }
+    requires facts { facts.now ≡ map (facts_at tree.now.nodes) tree.now.nodes }
     requires patterns { patterns.old ≡ map pattern_of tree.now.nodes }
     ensures ok { IfOk result (λ verdicts. verdicts.items ≡ map (verdict_of tree.now.nodes) tree.now.nodes) }
     ensures kept { patterns.new ≡ patterns.old }

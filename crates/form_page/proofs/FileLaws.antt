@@ -22,4 +22,3 @@ one_more_file bytes files more file name left rest all pushed is next so_far =
     ∙ append_assoc files (file ∷ []) (map new_file (map bytes rest))
     ∙ ap (λ (f : File). files ++ f ∷ map new_file (map bytes rest)) is
     ∙ ap (λ xs. files ++ map new_file (map bytes xs)) (sym next) ∙ so_far
-

@@ -67,4 +67,3 @@ pub counted_form : (ns : Nodes) (form : Key) (count : ℕ) → true ≡ passes i
 counted_form ns form count is counts =
     ap (λ (n : ℕ). Some n) (counts ∙ sym (length-filter (is_invalid_in ns form) ns))
     ∙ ap (λ (b : Bool). cond b (Some (length (filter (is_invalid_in ns form) ns))) None) is
-

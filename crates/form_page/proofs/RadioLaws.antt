@@ -69,8 +69,7 @@ pub outdone_step : (ns xs : Nodes) (passed place : ℕ) (n : Node) (marks more :
     → (more ≡ reverse (outdone_of ns (drop (length xs - (passed + 1)) xs))) × AreLasts ns next (drop (length xs - (passed + 1)) xs)
 outdone_step ns xs passed place n marks more lasts next lt is read marked stand pushed kept =
     let at = drop_at xs passed place n lt is read in
-    let behind = drop (length xs - passed) xs in
-    (
+    let behind = drop (length xs - passed) xs in (
       marks_more ns behind n lasts marks more stand marked pushed ∙ ap (λ (ys : Nodes). reverse (outdone_of ns ys)) (sym at),
       subst (AreLasts ns next) (sym at) (subst (λ (ks : List Key). AreLasts ns ks (n ∷ behind)) (sym kept) (one_more_last ns behind n lasts stand)),
     )
@@ -78,4 +77,3 @@ outdone_step ns xs passed place n marks more lasts next lt is read marked stand 
 pub marks_long : (ns xs : Nodes) → length (outdone_of ns xs) ≡ length xs
 marks_long ns [] = refl
 marks_long ns (n ∷ xs) = ap (λ m. suc m) (marks_long ns xs)
-

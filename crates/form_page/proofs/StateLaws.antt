@@ -74,7 +74,7 @@ pub put_step : (tree next : Tree) (states left : List (Option State)) (state : O
 put_step tree next states left state place pushed here made =
     ap (λ (t : Tree). record t { nodes = with_states t.nodes left }) made
     ∙ ap (λ (ns : Nodes). record tree { nodes = ns })
-        (ap (λ (p : ℕ). with_states (with_state_at tree.nodes p state) left) here ∙ sym (with_states_last tree.nodes left state) ∙ ap (with_states tree.nodes) (sym pushed))
+    (ap (λ (p : ℕ). with_states (with_state_at tree.nodes p state) left) here ∙ sym (with_states_last tree.nodes left state) ∙ ap (with_states tree.nodes) (sym pushed))
 
 pub all_put : (tree : Tree) (states : List (Option State)) → length states ≡ 0 → tree ≡ record tree { nodes = with_states tree.nodes states }
 all_put tree [] none = ap (λ (ns : Nodes). record tree { nodes = ns }) (sym (none_left tree.nodes))

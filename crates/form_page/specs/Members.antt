@@ -26,4 +26,3 @@ AreGroupsAmong ns entries elements = (owner : Option Key) (name : List ℕ) → 
 -- what the page says of an element for its judgement
 abbrev pub facts_at : Nodes → Node → Facts
 facts_at ns n = facts_of ns n.key
-

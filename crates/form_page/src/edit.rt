@@ -53,11 +53,7 @@ pub fn make_edits(
     Ok(())
 }
 
-fn make_edit(
-    tree: &mut Tree,
-    files: &mut Vec<File>,
-    edit: Edit,
-) -> Result<(), AllocError>
+fn make_edit(tree: &mut Tree, files: &mut Vec<File>, edit: Edit) -> Result<(), AllocError>
     requires { IfSome (edited_key edit) (λ k. IsSome (place_of tree.old.nodes k)) }
     ensures tree { OnOk result (tree.new ≡ record tree.old { nodes = nodes_after tree.old.nodes edit }) }
     ensures files { OnOk result (files.new.items ≡ files_after files.old.items edit) }
@@ -79,12 +75,7 @@ fn make_edit(
     }
 }
 
-fn set_attr(
-    tree: &mut Tree,
-    key: Key,
-    name: Text,
-    value: Option<Text>,
-) -> Result<(), AllocError>
+fn set_attr(tree: &mut Tree, key: Key, name: Text, value: Option<Text>) -> Result<(), AllocError>
     requires { IsSome (place_of tree.old.nodes key) }
     ensures { OnOk result (tree.new ≡ record tree.old { nodes = with_attr tree.old.nodes key name value }) }
 {

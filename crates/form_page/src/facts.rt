@@ -98,7 +98,7 @@ fn enter(
         → is_among (keys_of (group_of groups.old owner name)) node.now.key ≡ false }
     ensures { OnOk result ((owner : Option Key) → (name : List ℕ) → IsGroup owner name
         → group_of groups.new owner name ≡ group_of groups.old owner name
-            ++ members_among tree.now.nodes owner name (node.now ∷ [])) }
+        ++ members_among tree.now.nodes owner name (node.now ∷ [])) }
 {
     if !is_radio(node) {
         return Ok(());

@@ -177,12 +177,7 @@ impl Page {
 
     /// The listed elements whose owner would change if that attribute of that element were set, or
     /// taken away where there is no value, in tree order. Nothing is changed.
-    pub fn moves(
-        &self,
-        key: Key,
-        name: &str,
-        value: Option<&str>,
-    ) -> Result<Vec<Move>, AllocError>
+    pub fn moves(&self, key: Key, name: &str, value: Option<&str>) -> Result<Vec<Move>, AllocError>
         requires { IsSome (place_of self.now.tree.nodes key) }
         ensures { IfOk result (λ moves. moves.items ≡ moves_of self.now.tree.nodes key name.now (option_map (λ v. v.now) value.entry)) }
     {
@@ -208,12 +203,7 @@ impl Page {
         let mut files = copy_of(&self.files)?;
         make_edits(&mut tree, &mut files, edits)?;
         let next = page_of(self.alloc, tree, files, steps)?;
-        let keys = changed_keys(
-            self.alloc,
-            next.tree.nodes(),
-            &self.sights,
-            &next.sights,
-        )?;
+        let keys = changed_keys(self.alloc, next.tree.nodes(), &self.sights, &next.sights)?;
         *self = next;
         Ok(keys)
     }

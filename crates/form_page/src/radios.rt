@@ -30,7 +30,11 @@ fn settled_states(alloc: Global, tree: &Tree) -> Result<Vec<Option<State>>, Allo
 }
 
 // The states of the elements that are marked.
-fn unchecked(alloc: Global, nodes: &[Node], marks: &[bool]) -> Result<Vec<Option<State>>, AllocError>
+fn unchecked(
+    alloc: Global,
+    nodes: &[Node],
+    marks: &[bool],
+) -> Result<Vec<Option<State>>, AllocError>
     requires { length nodes.now ≡ length marks.now }
     ensures { IfOk result (λ states. states.items ≡ unchecked_by nodes.now marks.now) }
 {

@@ -52,14 +52,7 @@ pub fn all_sights(
             is_disabled(tree, answers, node.key),
             inside[place],
         );
-        sights.push(sight_if(
-            alloc,
-            tree,
-            files,
-            node,
-            candidate,
-            verdicts[place],
-        )?)?;
+        sights.push(sight_if(alloc, tree, files, node, candidate, verdicts[place])?)?;
     }
     Ok(sights)
 }

@@ -22,12 +22,7 @@ use std::alloc::{AllocError, Global};
 const FAKE_PATH: &str = "C:\\fakepath\\";
 
 /// The value of an element of the tree, the files being these.
-pub fn value_of(
-    alloc: Global,
-    tree: &Tree,
-    files: &[File],
-    node: &Node,
-) -> Result<Text, AllocError>
+pub fn value_of(alloc: Global, tree: &Tree, files: &[File], node: &Node) -> Result<Text, AllocError>
     requires { at_key tree.now.nodes node.now.key ≡ Some node.now }
     ensures { IfOk result (λ value. value ≡ value_at (names_of files.now) tree.now.nodes node.now) }
 {

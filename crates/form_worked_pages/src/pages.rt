@@ -2,9 +2,8 @@ ghost use Rattle.std.specs.Prelude.{◌≡◌, ◌<◌};
 
 use form_judge::{Flags, Steps};
 use form_markup::read;
-use form_page::{Edit, Page};
-use form_text::{Sequence, Text};
-use form_tree::{Key, State};
+use form_page::Page;
+use form_tree::Key;
 use std::alloc::{AllocError, Global};
 use std::process::Abort;
 use std::sync::ledger::{Blank, Ledger};

@@ -8,4 +8,4 @@ pub returns : goal.returns
 returns c =
     c.put_states.ensures
     ∙ ap (λ (ns : Nodes). record c.args.tree.now { nodes = ns })
-        (ap (with_states c.args.tree.now.nodes) c.in_ok-states.ensures ∙ radios_unchecked c.args.tree.now.nodes c.args.tree.now.nodes)
+    (ap (with_states c.args.tree.now.nodes) c.in_ok-states.ensures ∙ radios_unchecked c.args.tree.now.nodes c.args.tree.now.nodes)

@@ -9,4 +9,4 @@ pub returns : goal.returns
 returns c =
     c.put_states.ensures
     ∙ ap (λ (ns : Nodes). record c.args.tree.now { nodes = ns })
-        (ap (with_states c.args.tree.now.nodes) c.in_ok-states.ensures ∙ with_states_map (settled_option c.args.tree.now.nodes) c.args.tree.now.nodes)
+    (ap (with_states c.args.tree.now.nodes) c.in_ok-states.ensures ∙ with_states_map (settled_option c.args.tree.now.nodes) c.args.tree.now.nodes)

@@ -14,8 +14,8 @@ pub returns-in-Some-key_at : goal.returns-in-Some-key_at
 returns-in-Some-key_at c =
     c.set_state.ensures
     ∙ ap (λ (ns : Nodes). record c.args.tree.now { nodes = ns })
-        (state_written c.args.tree.now.nodes c.len.ensures.tree c.args.place c.in-Some-key_at.key c.in-Some.state c.in-Some-key_at.ensures
-        ∙ ap (with_state_at c.args.tree.now.nodes c.args.place) (sym c.in-Some.is))
+    (state_written c.args.tree.now.nodes c.len.ensures.tree c.args.place c.in-Some-key_at.key c.in-Some.state c.in-Some-key_at.ensures
+    ∙ ap (with_state_at c.args.tree.now.nodes c.args.place) (sym c.in-Some.is))
 
 pub returns-in_default-key_at : goal.returns-in_default-key_at
 returns-in_default-key_at c = ap (λ (ns : Nodes). record c.args.tree.now { nodes = ns }) (sym (past_the_end c.args.tree.now.nodes c.args.place c.args.state c.in_default-key_at.ensures))

@@ -48,5 +48,5 @@ returns-clause-keys g c =
     let whole : after ≡ edited c.args.self.now c.args.edits.items = made ∙ c.in_ok-make_edits.ensures ∙ ap (λ (p : Page). edited p c.args.edits.items) copied in
     c.in_ok-keys.ensures
     ∙ keys_found before after c.nodes.result.now c.deref.result.now c.deref-2.result.now c.len.ensures.tree c.nodes.ensures.tree same c.nodes.ensures.value
-        (c.deref.ensures.value ∙ c.self.invariant.3) (c.deref-2.ensures.value ∙ c.next.invariant.3)
+    (c.deref.ensures.value ∙ c.self.invariant.3) (c.deref-2.ensures.value ∙ c.next.invariant.3)
     ∙ ap₂ changes c.self.view_is whole

@@ -1,0 +1,14 @@
+mod CandidateLaws
+mod ChangeLaws
+mod CountLaws
+mod EditLaws
+mod FileLaws
+mod InvalidLaws
+mod Lists
+mod MemberLaws
+mod OpeningLaws
+mod OwnerLaws
+mod RadioLaws
+mod SelectLaws
+mod StateLaws
+mod ViewLaws

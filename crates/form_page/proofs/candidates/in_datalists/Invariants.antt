@@ -1,0 +1,7 @@
+use Rattle.std.proofs.Common.{◌≡◌, map, take}
+use Rattle.form_page.specs.Candidates.{is_in_datalist}
+use Rattle.form_page.proofs.candidates.in_datalists.Given as goal
+
+-- what is known of the elements so far
+abbrev pub invariant-loop-place : goal.invariant-loop-place
+invariant-loop-place l = l.inside.items ≡ map (is_in_datalist l.tree.nodes) (take l.place l.nodes)

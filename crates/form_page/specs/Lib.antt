@@ -1,0 +1,11 @@
+pub mod Candidates
+pub mod Changes
+pub mod Editing
+pub mod Invalid
+pub mod Lent
+pub mod Members
+pub mod Opening
+pub mod Page
+pub mod Settling
+pub mod States
+pub mod Views

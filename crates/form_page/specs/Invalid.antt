@@ -18,7 +18,8 @@ is_owned_by ns form n = option_map_or (same_key form) (owner_of ns n.key) false
 -- A submittable element that the form owns, that is a candidate for constraint validation, and that
 -- has some flag.
 abbrev pub is_invalid_in : Nodes → Key → Node → Bool
-is_invalid_in ns form n = is_owned_by ns form n && is_candidate ns n.key && option_map_or has_some (verdict_of ns n) false
+is_invalid_in ns form n =
+    is_owned_by ns form n && is_candidate ns n.key && option_map_or has_some (verdict_of ns n) false
 
 -- the invalid controls of a form, in tree order
 abbrev pub invalid_controls : Nodes → Key → Nodes

@@ -78,7 +78,8 @@ unchecked_if outdone n = if outdone then Some (unchecked n.state) else None
 -- of the page `ns`, these last elements of it with those unchecked that are outdone
 abbrev pub settled_radios_of : Nodes → Nodes → Nodes
 settled_radios_of ns [] = []
-settled_radios_of ns (n ∷ behind) = with_state_if (unchecked_if (is_outdone ns n behind) n) n ∷ settled_radios_of ns behind
+settled_radios_of ns (n ∷ behind) =
+    with_state_if (unchecked_if (is_outdone ns n behind) n) n ∷ settled_radios_of ns behind
 
 -- Of each radio button group the last checked member stays checked: to check one unchecks the others,
 -- and the elements are opened in tree order (HTML, "Radio Button state").

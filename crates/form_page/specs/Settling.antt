@@ -29,7 +29,9 @@ with_radios ns ks = fold with_radio ns ks
 
 -- the inputs whose form owner differs between two pages, in the order of the second
 abbrev pub moved_inputs : Nodes → Nodes → List Key
-moved_inputs before after = map (λ n. n.key) (filter (λ n. is_input n && not (same_owner (owner_of before n.key) (owner_of after n.key))) after)
+moved_inputs before after =
+    map (λ n. n.key)
+    (filter (λ n. is_input n && not (same_owner (owner_of before n.key) (owner_of after n.key))) after)
 
 -- ---- options (HTML, "The select element")
 
@@ -54,7 +56,10 @@ first_enabled ns s = find (λ n. not (is_disabled_option ns n)) (options ns s)
 -- first that is not disabled becomes selected
 abbrev pub with_last : Nodes → Key → Option Node → Nodes
 with_last ns s (Some last) = changed_but not_selected (is_option_of ns s) last.key ns
-with_last ns s None = if display_size ns s == 1 then option_map_or (λ first. with_node ns first.key now_selected) (first_enabled ns s) ns else ns
+with_last ns s None =
+    if display_size ns s == 1
+    then option_map_or (λ first. with_node ns first.key now_selected) (first_enabled ns s) ns
+    else ns
 
 -- the selectedness setting algorithm for one select
 abbrev pub with_selectedness : Nodes → Key → Nodes

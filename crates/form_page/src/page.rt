@@ -179,7 +179,8 @@ impl Page {
     /// taken away where there is no value, in tree order. Nothing is changed.
     pub fn moves(&self, key: Key, name: &str, value: Option<&str>) -> Result<Vec<Move>, AllocError>
         requires { IsSome (place_of self.now.tree.nodes key) }
-        ensures { IfOk result (λ moves. moves.items ≡ moves_of self.now.tree.nodes key name.now (option_map (λ v. v.now) value.entry)) }
+        ensures { IfOk result (λ moves.
+            moves.items ≡ moves_of self.now.tree.nodes key name.now (option_map (λ v. v.now) value.entry)) }
     {
         self.owners.moves(&self.tree, key, name, value)
     }

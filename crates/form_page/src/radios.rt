@@ -22,7 +22,8 @@ pub fn settle_radios(alloc: Global, tree: &mut Tree) -> Result<(), AllocError>
 }
 
 fn settled_states(alloc: Global, tree: &Tree) -> Result<Vec<Option<State>>, AllocError>
-    ensures { IfOk result (λ states. states.items ≡ unchecked_by tree.now.nodes (outdone_of tree.now.nodes tree.now.nodes)) }
+    ensures { IfOk result (λ states.
+        states.items ≡ unchecked_by tree.now.nodes (outdone_of tree.now.nodes tree.now.nodes)) }
 {
     let owners = Owners::build(alloc, tree)?;
     let marks = outdone(alloc, tree, owners.answers())?;
@@ -82,8 +83,10 @@ fn mark(
     lasts: &mut Vec<Key>,
 ) -> Result<(), AllocError>
     requires { answers.now ≡ owners_of tree.now.nodes }
-    ensures mark { OnOk result (marks.new.items ≡ marks.old.items ++ is_outdone_by tree.now.nodes node.now lasts.old.items ∷ []) }
-    ensures last { OnOk result (lasts.new.items ≡ with_last_if (is_last_by tree.now.nodes node.now lasts.old.items) node.now.key lasts.old.items) }
+    ensures mark { OnOk result
+        (marks.new.items ≡ marks.old.items ++ is_outdone_by tree.now.nodes node.now lasts.old.items ∷ []) }
+    ensures last { OnOk result
+        (lasts.new.items ≡ with_last_if (is_last_by tree.now.nodes node.now lasts.old.items) node.now.key lasts.old.items) }
 {
     let outdone = node.state.checked && shares_any(tree, answers, node.key, lasts);
     marks.push(outdone)?;

@@ -128,7 +128,8 @@ fn is_multiple(tree: &Tree, select: Key) -> bool
 // What stays selected of a select, by what was found for each place.
 fn chosen_of(tree: &Tree, chosen: &[Option<Key>], select: Key) -> Option<Key>
     requires { chosen.now ≡ map (chosen_at tree.now.nodes) tree.now.nodes }
-    ensures { result ≡ (if passes is_select tree.now.nodes select then slice_get (settled tree.now.nodes select) 0 else None) }
+    ensures { result ≡
+        (if passes is_select tree.now.nodes select then slice_get (settled tree.now.nodes select) 0 else None) }
 {
     match tree.place(select) {
         Some(place) => chosen[place],

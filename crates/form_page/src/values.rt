@@ -98,7 +98,8 @@ fn path_of(alloc: Global, name: Option<&str>) -> Result<Text, AllocError>
 
 // The name of the first selected file of an input.
 fn first_name<'a>(files: &'a [File], node: &Node) -> Option<&'a str>
-    ensures { option_copied result ≡ option_and_then (file_name (names_of files.now)) (slice_get node.now.state.files 0) }
+    ensures { option_copied result ≡
+        option_and_then (file_name (names_of files.now)) (slice_get node.now.state.files 0) }
 {
     match node.state.files.as_slice().first() {
         Some(number) => name_of(files, *number),

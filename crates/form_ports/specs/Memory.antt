@@ -19,7 +19,14 @@ pub record SourceState : Type 0 where
 
 -- a source that was not called yet
 abbrev pub new_source : List ℕ → ℕ → List ℕ → SourceState
-new_source bytes piece failing = record { left = bytes; given = 0; piece = piece; failing = failing; calls = 0; faults = 0 }
+new_source bytes piece failing = record {
+  left = bytes;
+  given = 0;
+  piece = piece;
+  failing = failing;
+  calls = 0;
+  faults = 0;
+}
 
 -- the next call is one of those that fail
 abbrev pub is_failing : List ℕ → ℕ → Bool
@@ -55,7 +62,14 @@ pub record SinkState : Type 0 where
 
 -- a sink that was not called yet
 abbrev pub new_sink : ℕ → ℕ → List ℕ → SinkState
-new_sink room piece failing = record { bytes = []; room = room; piece = piece; failing = failing; calls = 0; faults = 0 }
+new_sink room piece failing = record {
+  bytes = [];
+  room = room;
+  piece = piece;
+  failing = failing;
+  calls = 0;
+  faults = 0;
+}
 
 -- a call of the sink that fails
 abbrev pub sink_failed : SinkState → Took × SinkState

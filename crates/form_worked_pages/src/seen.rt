@@ -66,7 +66,7 @@ fn shown(alloc: Global, page: &Page, key: Key) -> Result<String, AllocError> {
 }
 
 // A page, and what is seen of an element of it.
-const SEEN: [(&str, u32, &str); 44] = [
+const SEEN: [(&str, u32, &str); 45] = [
     (
         "<form action=\"/s\"><input name=\"q\" required></form>",
         2,
@@ -100,11 +100,16 @@ const SEEN: [(&str, u32, &str); 44] = [
         "2024-05-06T07:08|k|",
     ),
     ("<input type=\"number\" value=\"1.\">", 1, "|k|"),
-    ("<input type=\"number\" value=\".5\">", 1, ".5|k|x"),
+    ("<input type=\"number\" value=\".5\">", 1, ".5|k|"),
     (
         "<input type=\"range\" min=\"0\" max=\"10\" step=\"2\">",
         1,
         "6|k|",
+    ),
+    (
+        "<input type=\"number\" min=\"0\" value=\".5\">",
+        1,
+        ".5|k|x",
     ),
     ("<input type=\"color\" value=\"#ABCDEF\">", 1, "#abcdef|k|"),
     (

@@ -110,7 +110,16 @@ const SEEN: &str = "2\t|k|m\t<form action=\"/s\"><input name=\"q\" required></fo
 1\ta|k|\t<select multiple><option selected>a</option><option selected>b</option></select>
 1\t|k|m\t<select required><option value=\"\">a</option><option>b</option></select>
 3\t|k|\t<fieldset disabled><legend><input></legend><input></fieldset>
-4\t||\t<fieldset disabled><legend><input></legend><input></fieldset>";
+4\t||\t<fieldset disabled><legend><input></legend><input></fieldset>
+2\ton|k|m\t<form><input type=\"radio\" name=\"a\" required></form><form><input type=\"radio\" name=\"a\" checked></form>
+4\ton|ck|\t<form><input type=\"radio\" name=\"a\" required></form><form><input type=\"radio\" name=\"a\" checked></form>
+1\ton|k|\t<input type=\"radio\" name=\"a\" required><input type=\"radio\" name=\"a\" checked>
+1\ton|k|m\t<input type=\"radio\" name=\"a\" required><input type=\"radio\" name=\"A\" checked>
+1\ton|k|m\t<input type=\"radio\" name=\"\" required><input type=\"radio\" name=\"\" checked>
+1\ton|k|m\t<input type=\"radio\" required><input type=\"radio\" checked>
+1\ton|k|m\t<input type=\"radio\" name=\"a\" required><input type=\"checkbox\" name=\"a\" checked>
+1\ton|k|\t<input type=\"radio\" name=\"a\" checked><input type=\"radio\" name=\"a\" checked>
+2\ton|ck|\t<input type=\"radio\" name=\"a\" checked><input type=\"radio\" name=\"a\" checked>";
 
 #[test]
 fn what_is_seen_of_a_page(rt: HostRuntime) -> Result<(), Fail> {

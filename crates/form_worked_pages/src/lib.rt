@@ -7,8 +7,6 @@ mod owners;
 #[cfg(test)]
 mod pages;
 #[cfg(test)]
-mod seen;
-#[cfg(test)]
 mod selects;
 #[cfg(test)]
 mod trees;

@@ -25,17 +25,23 @@ pub struct Group {
     // The keys of the members, to be lent as a slice.
     keys: Vec<Key>,
     members: Vec<Member>,
+    // Whether some member is required, and whether some member is checked.
+    required: bool,
+    checked: bool,
 }
 
 impl Model for Group {
     ghost use Rattle.std.specs.Prelude.{◌≡◌};
+    ghost use Rattle.std.specs.List.{list_any};
     ghost use Rattle.form_groups.specs.Groups.{Group, keys_of};
 
     ghost Value = { Group };
 
     ghost view = { λ g. record { owner = g.owner; name = g.name; members = g.members.items } };
 
-    ghost invariant = { λ g. g.keys.items ≡ keys_of g.members.items };
+    ghost invariant = { λ g. (g.keys.items ≡ keys_of g.members.items)
+        × (g.required ≡ list_any (λ m. m.required) g.members.items)
+        × (g.checked ≡ list_any (λ m. m.checked) g.members.items) };
 }
 
 impl Group {
@@ -59,6 +65,8 @@ impl Group {
             name,
             keys,
             members,
+            required: member.required,
+            checked: member.checked,
         })
     }
 
@@ -87,7 +95,7 @@ impl Group {
     pub fn is_missing(&self) -> bool
         ensures { result ≡ is_missing self.now.members }
     {
-        any_required(&self.members) && !any_checked(&self.members)
+        self.required && !self.checked
     }
 
     /// The first checked member.
@@ -112,7 +120,11 @@ impl Group {
     {
         self.keys.push(member.key)?;
         match self.members.push(member) {
-            Ok(()) => Ok(()),
+            Ok(()) => {
+                self.required = self.required || member.required;
+                self.checked = self.checked || member.checked;
+                Ok(())
+            }
             Err(fault) => {
                 self.keys.pop();
                 Err(fault.into())
@@ -126,6 +138,8 @@ impl Group {
     {
         take_key(&mut self.keys, key);
         take_member(&mut self.members, key);
+        self.required = any_required(&self.members);
+        self.checked = any_checked(&self.members);
     }
 
     /// Gives the member of a key other marks.
@@ -135,6 +149,8 @@ impl Group {
         } }
     {
         mark_member(&mut self.members, key, required, checked);
+        self.required = any_required(&self.members);
+        self.checked = any_checked(&self.members);
     }
 }
 

@@ -74,11 +74,13 @@ none_pass : (p : Node → Bool) → ((n : Node) → p n ≡ false) → (t : Node
 none_pass p none [] = refl
 none_pass p none (n ∷ t) = rw (none n) (none_pass p none t)
 
--- an element that is no radio button has no group that could lack a choice
-pub no_group : (t : Nodes) (k : Key) → passes is_radio t k ≡ false → is_group_missing t k ≡ false
-no_group t k other =
-    let empty : radio_group t k ≡ [] = none_pass (λ n. share_group t k n.key) (λ n. alone n.key) t in
-    ap (λ (group : Nodes). list_any is_required group && not (list_any is_checked group)) empty
+-- an element that is no radio button has no group
+pub no_members : (t : Nodes) (k : Key) → passes is_radio t k ≡ false → radio_group t k ≡ []
+no_members t k other = none_pass (λ n. share_group t k n.key) (λ n. alone n.key) t
   where
     alone : (j : Key) → share_group t k j ≡ false
     alone j = ap (λ (b : Bool). b && passes is_radio t j && (same_key k j || (same_owner (owner_of t k) (owner_of t j) && same_name (name_of t k) (name_of t j)))) other
+
+-- and so none that could lack a choice
+pub no_group : (t : Nodes) (k : Key) → passes is_radio t k ≡ false → is_group_missing t k ≡ false
+no_group t k other = ap (λ (group : Nodes). list_any is_required group && not (list_any is_checked group)) (no_members t k other)

@@ -1,4 +1,5 @@
 pub mod FlagLaws
 pub mod KindLaws
 pub mod Laws
+pub mod PatternLaws
 pub mod ValueLaws

@@ -1,2 +1,4 @@
+pub mod Beginning
 pub mod Controls
 pub mod Flags
+pub mod Patterns

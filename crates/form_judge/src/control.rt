@@ -1,8 +1,9 @@
 // What the flags read of a control.
 ghost use Rattle.std.specs.Prelude.{◌≡◌, IfSome};
 ghost use Rattle.std.specs.Option.{option_copied};
-ghost use Rattle.form_states.specs.Limits.{IsStep};
-ghost use Rattle.form_tree.specs.Elements.{is_empty_text, is_input, is_input_tag, is_textarea, is_textarea_tag, kind_of};
+ghost use Rattle.form_states.specs.Limits.{IsLimits, IsStep};
+ghost use Rattle.form_tree.specs.Elements.{is_button, is_empty_text, is_input, is_input_tag, is_textarea, is_textarea_tag, kind_of};
+ghost use Rattle.form_tree.specs.Value.{value_attr_or};
 ghost use Rattle.form_judge.specs.Controls.{applies_to_input, applies_to_text, own_limits, own_number, own_value, text_where};
 
 use form_decimal::Decimal;
@@ -21,6 +22,7 @@ pub fn kind_of(node: &Node) -> Kind
     }
 }
 
+/// Whether it is an input element.
 pub fn is_input(node: &Node) -> bool
     ensures { result ≡ is_input node.now }
 {
@@ -33,6 +35,7 @@ fn is_input_tag(tag: Tag) -> bool
     matches!(tag, Tag::Input)
 }
 
+/// Whether it is a textarea element.
 pub fn is_textarea(node: &Node) -> bool
     ensures { result ≡ is_textarea node.now }
 {
@@ -43,6 +46,23 @@ fn is_textarea_tag(tag: Tag) -> bool
     ensures { result ≡ is_textarea_tag tag }
 {
     matches!(tag, Tag::Textarea)
+}
+
+/// Whether it is a button element.
+pub fn is_button(node: &Node) -> bool
+    ensures { result ≡ is_button node.now }
+{
+    matches!(node.tag, Tag::Button)
+}
+
+/// The `value` attribute, or else that text.
+pub fn value_attr_or<'a>(node: &'a Node, text: &'a str) -> &'a str
+    ensures { result.now ≡ value_attr_or text.now node.now }
+{
+    match node.attr("value") {
+        Some(value) => value,
+        None => text,
+    }
 }
 
 /// Whether it is an input in a state to which the attribute applies.
@@ -73,6 +93,7 @@ pub fn own_limits(node: &Node, kind: Kind) -> Limits
     requires { kind ≡ kind_of node.now }
     ensures value { result ≡ own_limits node.now }
     ensures step { IfSome result.step IsStep }
+    ensures limits { IsLimits kind result }
 {
     Limits::of(
         kind,

@@ -152,7 +152,7 @@ pub(crate) fn compile_own(alloc: Global, node: &Node) -> Result<Option<Pattern>,
 }
 
 /// The text of the pattern attribute of an element, where it applies.
-fn pattern_text(node: &Node) -> Option<&str>
+pub(crate) fn pattern_text(node: &Node) -> Option<&str>
     ensures { option_copied result ≡ pattern_text node.now }
 {
     text_where(

@@ -7,6 +7,8 @@
 //! [`Steps`].
 #![tactic(auto)]
 
+mod barring;
+mod beginning;
 mod control;
 mod flags;
 mod inputs;
@@ -14,12 +16,16 @@ mod judging;
 mod lengths;
 mod mismatches;
 mod missing;
+mod patterns;
 mod ranges;
 mod steps;
 #[cfg(test)]
 mod tests;
 
-pub use control::kind_of;
+pub use barring::is_barred_by_itself;
+pub use beginning::first_states;
+pub use control::{is_button, is_input, is_textarea, kind_of, value_attr_or};
 pub use flags::{Facts, Flags};
 pub use judging::{Verdict, compile_pattern, judge};
+pub use patterns::{all_patterns, fresh_patterns, put_patterns};
 pub use steps::Steps;

@@ -1,10 +1,10 @@
 // Suffering from being missing.
 ghost use Rattle.std.specs.Prelude.{◌≡◌};
-ghost use Rattle.form_tree.specs.Disabling.{is_read_only};
 ghost use Rattle.form_tree.specs.Elements.{kind_of};
 ghost use Rattle.form_tree.specs.RadioGroup.{is_radio, is_radio_kind};
 ghost use Rattle.form_judge.specs.Flags.{has_no_files, lacks_check, lacks_file, lacks_in_mode, lacks_text, suffers_from_being_missing};
 
+use crate::barring::is_read_only;
 use crate::control::{applies_to_input, applies_to_text, has_empty_value, is_input, is_textarea};
 use crate::flags::Facts;
 use form_tree::{Node, Tag};
@@ -54,14 +54,6 @@ fn lacks_text(node: &Node, kind: Kind, facts: &Facts) -> bool
         return false;
     }
     has_empty_value(node)
-}
-
-// Whether the control has a `readonly` attribute that applies to it.
-fn is_read_only(node: &Node, kind: Kind) -> bool
-    requires { kind ≡ kind_of node.now }
-    ensures { result ≡ is_read_only node.now }
-{
-    node.has_attr("readonly") && (is_textarea(node) || applies_to_input(node, kind, Attr::Readonly))
 }
 
 fn lacks_check(node: &Node) -> bool

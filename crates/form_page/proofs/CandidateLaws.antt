@@ -1,5 +1,5 @@
 -- What stands above an element, by what stands above its parent.
-use Rattle.std.proofs.Common.{◌≡◌, ℕ, zero, suc, ◌<◌, Bool, true, false, ◌||◌, List, [], ◌∷◌, length, map, take, get_or, Option, Some, None, refl, sym, ap, ◌∙◌, subst, arith}
+use Rattle.std.proofs.Common.{◌≡◌, ℕ, zero, suc, ◌<◌, Bool, true, false, ◌||◌, List, [], ◌∷◌, length, map, take, get_or, Some, None, refl, sym, ap, ◌∙◌, subst, arith}
 use Rattle.std.specs.List.{list_any, slice_get}
 use Rattle.std.specs.Option.{option_and_then}
 use Rattle.std.proofs.lemmas.Option.{none-some, same_Some, slice_get_within}
@@ -7,10 +7,10 @@ use Rattle.form_tree.specs.declared.node.Key.{Key}
 use Rattle.form_tree.specs.declared.node.Node.{Node}
 use Rattle.form_tree.specs.Elements.{is_datalist}
 use Rattle.form_tree.specs.Ownership.{ancestors}
-use Rattle.form_tree.specs.Tree.{Nodes, IsTree, at_key, parent_of, place_of}
+use Rattle.form_tree.specs.Tree.{Nodes, IsTree, at_key, place_of}
 use Rattle.form_tree.proofs.Laws.{ancestors_step, ancestors_top, at_place, parent_before}
 use Rattle.form_page.specs.Candidates.{is_in_datalist}
-use Rattle.form_page.proofs.OwnerLaws.{kept_there, placed_node}
+use Rattle.form_select.proofs.Laws.{kept_there, placed_node}
 
 get-take : {X : Type 0} (xs : List X) (i j : ℕ) → j < i → slice_get (take i xs) j ≡ slice_get xs j
 get-take xs zero j lt = absurd (omega arith)

@@ -1,5 +1,5 @@
 -- The keys whose sights differ place by place are those whose views differ.
-use Rattle.std.proofs.Common.{◌≡◌, ℕ, zero, suc, ◌<◌, Bool, true, false, not, cond, List, [], ◌∷◌, ◌++◌, length, map, get_or, Option, Some, None, refl, sym, ap, ◌∙◌, arith}
+use Rattle.std.proofs.Common.{◌≡◌, ℕ, suc, ◌<◌, Bool, true, false, not, cond, List, [], ◌∷◌, ◌++◌, length, map, get_or, Option, Some, refl, sym, ap, ◌∙◌, arith}
 use Rattle.std.specs.List.{filter}
 use Rattle.std.specs.Option.{option_and_then, option_map}
 use Rattle.form_tree.specs.declared.node.Key.{Key}
@@ -8,7 +8,7 @@ use Rattle.form_tree.specs.Tree.{Nodes, IsTree, at_key}
 use Rattle.form_page.specs.Changes.{changed_keys, same_sights}
 use Rattle.form_page.specs.declared.sight.Sight.{Sight}
 use Rattle.form_page.specs.Page.{Page, names_of}
-use Rattle.form_page.specs.Views.{changes, is_changed, same_views, sight_at, sight_if, view_by, view_of}
+use Rattle.form_page.specs.Views.{changes, is_changed, sight_if, view_by, view_of}
 use Rattle.form_page.proofs.EditLaws.{frame, keys_same}
 use Rattle.form_page.proofs.MemberLaws.{all_own}
 

@@ -17,7 +17,7 @@ use Rattle.form_page.specs.declared.sight.Sight.{Sight}
 use Rattle.form_page.specs.Changes.{counts_for, is_failing}
 use Rattle.form_page.specs.Invalid.{invalid_count, is_invalid_in, is_owned_by}
 use Rattle.form_page.specs.Views.{sight_if, sight_of}
-use Rattle.form_page.proofs.OwnerLaws.{kept_there}
+use Rattle.form_select.proofs.Laws.{kept_there}
 
 failing : (names : List (List ℕ)) (ns : Nodes) (form : Key) (m : Node) → counts_for form (owner_of ns m.key) (sight_if names ns m) ≡ is_invalid_in ns form m
 failing names ns form m = go (is_submittable m) (is_option m) (is_owned_by ns form m) (is_candidate ns m.key) (has_some (flags_of m (facts_of ns m.key)))

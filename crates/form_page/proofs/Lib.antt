@@ -9,6 +9,5 @@ mod MemberLaws
 mod OpeningLaws
 mod OwnerLaws
 mod RadioLaws
-mod SelectLaws
 mod StateLaws
 mod ViewLaws

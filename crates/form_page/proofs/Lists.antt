@@ -1,9 +1,7 @@
 -- What is told of the elements of a list, from its last on and from its first.
-use Rattle.std.proofs.Common.{◌≡◌, ℕ, zero, suc, ◌+◌, ◌-◌, ◌<◌, Bool, true, false, ◌||◌, ◌&&◌, not, cond, List, [], ◌∷◌, ◌++◌, length, drop, take, map, get_or, Option, Some, None, refl, sym, ap, ◌∙◌, arith}
-use Rattle.std.specs.Prelude.{reverse}
-use Rattle.std.specs.List.{list_any, slice_get}
-use Rattle.std.proofs.lemmas.Bool.{or_cases, or_left, or_right}
-use Rattle.std.proofs.lemmas.List.Folds.{list_any-append}
+use Rattle.std.proofs.Common.{◌≡◌, ℕ, zero, suc, ◌<◌, Bool, true, false, ◌||◌, List, [], ◌∷◌, ◌++◌, length, drop, take, get_or, refl, sym, ap, arith}
+use Rattle.std.specs.List.{list_any}
+use Rattle.std.proofs.lemmas.Bool.{or_right}
 
 -- what passes one test passes the other
 pub any_more : {X : Type 0} (p q : X → Bool) → ((x : X) → p x ≡ true → q x ≡ true) → (xs : List X) → list_any p xs ≡ true → list_any q xs ≡ true
@@ -19,3 +17,12 @@ pub drop_here : {X : Type 0} (xs : List X) (i : ℕ) (d x : X) → i < length xs
 drop_here [] i d x lt is = absurd (omega arith)
 drop_here (y ∷ ys) zero d x lt is = ap (λ z. z ∷ ys) (sym is)
 drop_here (y ∷ ys) (suc i) d x lt is = drop_here ys i d x (omega arith) is
+
+-- a list put in the place of another one that is as long
+pub spliced : {A : Type 0} (n : ℕ) (new old : List A) → n ≡ length old → length new ≡ length old → take n (new ++ drop (length new) old) ≡ new
+spliced zero [] [] long same = refl
+spliced (suc n) [] [] long same = refl
+spliced n [] (y ∷ ys) long same = absurd (omega (arith, same))
+spliced n (x ∷ xs) [] long same = absurd (omega (arith, same))
+spliced zero (x ∷ xs) (y ∷ ys) long same = absurd (omega (arith, long))
+spliced (suc n) (x ∷ xs) (y ∷ ys) long same = ap (λ zs. x ∷ zs) (spliced n xs ys (omega (arith, long)) (omega (arith, same)))

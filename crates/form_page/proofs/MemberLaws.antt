@@ -1,12 +1,12 @@
 -- Radio buttons as members of their groups.
-use Rattle.std.proofs.Common.{◌≡◌, ◌≢◌, ℕ, zero, suc, ◌+◌, ◌<◌, ◌≤◌, Bool, true, false, ◌||◌, ◌&&◌, not, cond, List, [], ◌∷◌, ◌++◌, length, map, take, drop, get_or, Option, Some, None, IfSome, inl, inr, refl, sym, ap, ◌∙◌, subst, arith, length-drop, add-one, ltb}
-use Rattle.std.specs.Prelude.{reverse, codes, unwrap_or, ◌==◌}
+use Rattle.std.proofs.Common.{◌≡◌, ℕ, zero, suc, ◌<◌, ◌≤◌, Bool, true, false, ◌||◌, ◌&&◌, not, cond, List, [], ◌∷◌, ◌++◌, length, map, take, get_or, Option, Some, None, IfSome, refl, sym, ap, ◌∙◌, subst, arith, ltb}
+use Rattle.std.specs.Prelude.{reverse, codes, ◌==◌}
 use Rattle.std.specs.List.{All, filter, find, list_any, list_all, slice_get}
 use Rattle.std.specs.Option.{option_map, option_map_or, option_and_then}
 use Rattle.std.specs.Str.{bytes_eq}
-use Rattle.std.proofs.lemmas.Bool.{and_parts, eqb-true, false_from_ne_true, lt-ltb, ltb-true, or_parts}
+use Rattle.std.proofs.lemmas.Bool.{and_parts, lt-ltb, ltb-true, or_parts}
 use Rattle.std.proofs.lemmas.Bool.Decides.{nat_tests}
-use Rattle.std.proofs.lemmas.List.{get_or-drop, map-append, get_or-map, length-map, reverse-append}
+use Rattle.std.proofs.lemmas.List.{map-append, reverse-append}
 use Rattle.std.proofs.lemmas.List.Elements.{filter-append}
 use Rattle.std.proofs.lemmas.List.Quantifiers.{position-Some}
 use Rattle.std.proofs.lemmas.Option.{none-some, same_Some}
@@ -15,14 +15,15 @@ use Rattle.std.proofs.Math.Seq.{take-suc}
 use Rattle.form_tree.specs.declared.node.Key.{Key}
 use Rattle.form_tree.specs.declared.node.Node.{Node}
 use Rattle.form_tree.specs.Elements.{is_among, is_empty_text, is_form, is_listed, passes, same_key, same_owner}
-use Rattle.form_tree.specs.Ownership.{above, ancestors, form_with_id, has_id, key_if_form, nearest_form, owner_by, owner_of}
-use Rattle.form_tree.specs.RadioGroup.{is_checked, is_group_missing, is_radio, is_required, name_of, radio_group, same_name, share_group}
+use Rattle.form_tree.specs.Ownership.{above, ancestors, has_id, key_if_form, owner_by, owner_of}
+use Rattle.form_tree.specs.RadioGroup.{is_checked, is_group_missing, is_radio, is_required, name_of, radio_group, share_group}
 use Rattle.form_tree.specs.Tree.{Nodes, IsTree, at_key, attr_of, is_key, parent_of, place_of, shape_of}
-use Rattle.form_tree.proofs.Laws.{at_place, key_same, same_key-refl}
+use Rattle.form_tree.proofs.Laws.{at_key_place, at_place, key_same, same_key-refl}
+use Rattle.form_judge.proofs.Laws.{no_members}
 use Rattle.form_groups.specs.declared.group.Member.{Member}
-use Rattle.form_groups.specs.Groups.{Entries, IsGroup, group_of, is_missing, keys_of, member_of, same_group}
+use Rattle.form_groups.specs.Groups.{Entries, IsGroup, group_of, is_missing, keys_of, member_of}
 use Rattle.form_page.specs.Members.{AreGroupsAmong, is_in_group, members_among}
-use Rattle.form_page.proofs.OwnerLaws.{at_own_key}
+use Rattle.form_select.proofs.Laws.{at_own_key}
 
 -- ---- keys of owners are from 1
 
@@ -167,6 +168,37 @@ filter_none (x ∷ xs) = filter_none xs
 pub no_group : (ns : Nodes) (n : Node) → at_key ns n.key ≡ Some n → is_radio n ≡ false → is_group_missing ns n.key ≡ false
 no_group ns n own none = rw (passes_own is_radio ns n own, none, filter_none ns) refl
 
+-- and no member
+pub none_listed : (ns : Nodes) (n : Node) → at_key ns n.key ≡ Some n → is_radio n ≡ false → map (λ (m : Node). m.key) (radio_group ns n.key) ≡ []
+none_listed ns n own none = ap (map (λ (m : Node). m.key)) (no_members ns n.key (passes_own is_radio ns n own ∙ none))
+
+pub absent_listed : (ns : Nodes) (k : Key) → at_key ns k ≡ None → map (λ (m : Node). m.key) (radio_group ns k) ≡ []
+absent_listed ns k none = ap (map (λ (m : Node). m.key)) (no_members ns k (ap (λ (o : Option Node). option_map_or is_radio o false) none))
+
+keys_of_members : (xs : Nodes) → keys_of (map member_of xs) ≡ map (λ (m : Node). m.key) xs
+keys_of_members [] = refl
+keys_of_members (x ∷ xs) = ap (λ (ks : List Key). x.key ∷ ks) (keys_of_members xs)
+
+none_at : (p : Node → Bool) (xs : Nodes) → ((j : ℕ) (m : Node) → slice_get xs j ≡ Some m → p m ≡ true → ⊥) → filter p xs ≡ []
+none_at p [] none = refl
+none_at p (x ∷ xs) none = go (p x) refl (none_at p xs (λ j m. none (suc j) m))
+  where
+    go : (b : Bool) → p x ≡ b → filter p xs ≡ [] → cond b (x ∷ filter p xs) (filter p xs) ≡ []
+    go true e rest = absurd (none zero x refl e)
+    go false e rest = rest
+
+-- what passes at one place alone
+only_there : (p : Node → Bool) (xs : Nodes) (i : ℕ) (n : Node) → slice_get xs i ≡ Some n → p n ≡ true → ((j : ℕ) (m : Node) → slice_get xs j ≡ Some m → p m ≡ true → j ≡ i) → filter p xs ≡ n ∷ []
+only_there p [] i n there here only = absurd (none-some n (there))
+only_there p (x ∷ xs) zero n there here only =
+    let is : x ≡ n = same_Some x n there in
+    rw (ap p is ∙ here, none_at p xs (λ j m at passes. absurd (omega (arith, only (suc j) m at passes)))) (ap (λ (y : Node). y ∷ []) is)
+only_there p (x ∷ xs) (suc i) n there here only = go (p x) refl (only_there p xs i n there here (λ j m at passes. omega (arith, only (suc j) m at passes)))
+  where
+    go : (b : Bool) → p x ≡ b → filter p xs ≡ n ∷ [] → cond b (x ∷ filter p xs) (filter p xs) ≡ n ∷ []
+    go true e rest = absurd (omega (arith, only zero x refl e))
+    go false e rest = rest
+
 -- a radio button with a name: its group by owner and name
 module _ (ns : Nodes) (tree : IsTree ns) (n : Node) (own : at_key ns n.key ≡ Some n) (radio : is_radio n ≡ true) where
   shared : is_empty_text (name_of ns n.key) ≡ false → (m : Node) → at_key ns m.key ≡ Some m → share_group ns n.key m.key ≡ is_in_group ns (owner_of ns n.key) (name_of ns n.key) m
@@ -256,3 +288,24 @@ module _ (ns : Nodes) (tree : IsTree ns) (n : Node) (own : at_key ns n.key ≡ S
       ∙ ap (λ (o : Option Key). is_missing (members_among ns o name ns)) owns
       ∙ ap (λ (s : List ℕ). is_missing (members_among ns (owner_of ns n.key) s ns)) named
       ∙ group_lacks (subst (λ (s : List ℕ). is_empty_text s ≡ false) named (filled_name name h))
+
+  -- ---- who is a member
+
+  pub alone_listed : is_empty_text (name_of ns n.key) ≡ true → map (λ (m : Node). m.key) (radio_group ns n.key) ≡ n.key ∷ []
+  alone_listed empty = ap (map (λ (m : Node). m.key)) (filter_own ns (λ (m : Node). share_group ns n.key m.key) (is_key n.key) (alone empty) ns (all_own ns tree) ∙ placed (place_of ns n.key) refl)
+    where
+      placed : (o : Option ℕ) → place_of ns n.key ≡ o → filter (is_key n.key) ns ≡ n ∷ []
+      placed None e = absurd (none-some n (sym (at_key_place ns n.key ∙ ap (option_and_then (slice_get ns)) e) ∙ own))
+      placed (Some i) e =
+          let there : slice_get ns i ≡ Some n = sym (at_key_place ns n.key ∙ ap (option_and_then (slice_get ns)) e) ∙ own in
+          only_there (is_key n.key) ns i n there (same_key-refl n.key) (λ j m at same. same_Some j i (sym (at_place ns tree j m at).1 ∙ ap (place_of ns) (sym (key_same n.key m.key same)) ∙ e))
+
+  pub entered_listed : (entries : Entries) → AreGroupsAmong ns entries ns → (owner : Option Key) (name : List ℕ) → owner ≡ owner_of ns n.key → name ≡ name_of ns n.key → false ≡ (length name == 0) → keys_of (group_of entries owner name) ≡ map (λ (m : Node). m.key) (radio_group ns n.key)
+  entered_listed entries stand owner name owns named h =
+      let filled : is_empty_text (name_of ns n.key) ≡ false = subst (λ (s : List ℕ). is_empty_text s ≡ false) named (filled_name name h) in
+      let same = filter_own ns (λ (m : Node). share_group ns n.key m.key) (is_in_group ns (owner_of ns n.key) (name_of ns n.key)) (shared filled) ns (all_own ns tree) in
+      ap keys_of (stand owner name (is_group ns tree n.key owner name owns h))
+      ∙ ap (λ (o : Option Key). keys_of (members_among ns o name ns)) owns
+      ∙ ap (λ (s : List ℕ). keys_of (members_among ns (owner_of ns n.key) s ns)) named
+      ∙ keys_of_members (filter (is_in_group ns (owner_of ns n.key) (name_of ns n.key)) ns)
+      ∙ ap (map (λ (m : Node). m.key)) (sym same)

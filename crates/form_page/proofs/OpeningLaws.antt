@@ -3,16 +3,15 @@ use Rattle.std.proofs.Common.{◌≡◌, ℕ, suc, ◌+◌, ◌<◌, ◌≤◌, 
 use Rattle.std.specs.List.{count_by, enumerate_from, filter}
 use Rattle.std.proofs.lemmas.List.{length-map}
 use Rattle.std.proofs.lemmas.List.Sums.{length-filter}
-use Rattle.form_tree.specs.declared.node.Key.{Key}
 use Rattle.form_tree.specs.declared.node.Node.{Node}
 use Rattle.form_tree.specs.declared.node.Raw.{Raw}
 use Rattle.form_tree.specs.declared.node.State.{State}
 use Rattle.form_tree.specs.Elements.{is_submittable, is_submittable_tag}
 use Rattle.form_tree.specs.Tree.{Nodes, Tree, node_of_raw, nodes_of_raws, tree_of_raws}
-use Rattle.form_page.specs.Opening.{first_state, is_outdone, opened_nodes, opened_tree, settled_option, settled_radios_of, unchecked_if, with_first_states, with_settled_radios, with_settled_selects, with_state_if}
-use Rattle.form_page.specs.States.{with_states}
+use Rattle.form_page.specs.Opening.{is_outdone, opened_nodes, opened_tree, settled_radios_of, unchecked_if, with_first_states, with_settled_radios, with_settled_selects, with_state_if}
+use Rattle.form_judge.specs.Beginning.{first_state}
+use Rattle.form_select.specs.Settled.{settled_option}
 use Rattle.form_page.proofs.EditLaws.{count_same, frame}
-use Rattle.form_page.proofs.StateLaws.{with_states_map}
 
 framed : (state : Option State) (n : Node) → frame (with_state_if state n) ≡ frame n
 framed None n = refl
@@ -58,14 +57,12 @@ opened_long raws =
     sym (length-map (opened_nodes (nodes_of_raws raws)) frame) ∙ ap length (opened_frames (nodes_of_raws raws)) ∙ length-map (nodes_of_raws raws) frame ∙ long 0 raws
 
 -- the tree that opening makes, step by step
-pub opened_made : (raws : List Raw) (tree put radio select : Tree) (states : List (Option State)) → tree ≡ tree_of_raws raws → states ≡ map (λ n. Some (first_state n)) tree.nodes
-    → put ≡ record tree { nodes = with_states tree.nodes states } → radio ≡ record put { nodes = with_settled_radios put.nodes } → select ≡ record radio { nodes = with_settled_selects radio.nodes } → select ≡ opened_tree raws
+pub opened_made : (raws : List Raw) (tree first radio select : Tree) → tree ≡ tree_of_raws raws → first ≡ record tree { nodes = with_first_states tree.nodes } → radio ≡ record first { nodes = with_settled_radios first.nodes } → select ≡ record radio { nodes = with_settled_selects radio.nodes } → select ≡ opened_tree raws
 unfolding opened_nodes
-opened_made raws tree put radio select states is made one two three =
-    let first : put ≡ record (tree_of_raws raws) { nodes = with_first_states (nodes_of_raws raws) } =
-    one ∙ ap (λ (ns : Nodes). record tree { nodes = ns }) (ap (with_states tree.nodes) made ∙ with_states_map (λ n. Some (first_state n)) tree.nodes)
-    ∙ ap (λ (t : Tree). record t { nodes = with_first_states t.nodes }) is in
-    three ∙ ap (λ (t : Tree). record t { nodes = with_settled_selects t.nodes }) (two ∙ ap (λ (t : Tree). record t { nodes = with_settled_radios t.nodes }) first)
+opened_made raws tree first radio select is one two three =
+    three
+    ∙ ap (λ (t : Tree). record t { nodes = with_settled_selects t.nodes })
+    (two ∙ ap (λ (t : Tree). record t { nodes = with_settled_radios t.nodes }) (one ∙ ap (λ (t : Tree). record t { nodes = with_first_states t.nodes }) is))
 
 pub opened_few : (raws : List Raw) (tree : Tree) (most : ℕ) → tree ≡ opened_tree raws → length raws < most → length tree.nodes < most
 opened_few raws tree most is few =

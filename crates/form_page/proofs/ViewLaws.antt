@@ -1,14 +1,13 @@
 -- What is kept of each element, read by its key.
-use Rattle.std.proofs.Common.{◌≡◌, ℕ, List, map, Option, Some, None, refl, sym, ap, ◌∙◌}
+use Rattle.std.proofs.Common.{◌≡◌, ℕ, List, map, Option, Some, None, sym, ap, ◌∙◌}
 use Rattle.std.specs.List.{slice_get}
 use Rattle.std.specs.Option.{option_and_then, option_map}
 use Rattle.std.proofs.lemmas.Option.{slice_get-map}
 use Rattle.form_tree.specs.declared.node.Key.{Key}
-use Rattle.form_tree.specs.declared.node.Node.{Node}
 use Rattle.form_tree.specs.Tree.{Nodes, at_key, place_of}
 use Rattle.form_page.specs.declared.sight.Sight.{Sight}
 use Rattle.form_page.specs.Views.{sight_if}
-use Rattle.form_page.proofs.OwnerLaws.{placed_node, unplaced}
+use Rattle.form_select.proofs.Laws.{placed_node, unplaced}
 
 abbrev itself : Option Sight → Option Sight
 itself sight = sight

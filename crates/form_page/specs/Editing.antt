@@ -1,9 +1,9 @@
 -- The raw changes of a page, in order. Nothing follows from them but what is seen.
-use Rattle.std.specs.Prelude.{◌≡◌, ℕ, zero, suc, false, List, [], ◌∷◌, Option, Some, None, IsSome, IfSome}
+use Rattle.std.specs.Prelude.{ℕ, zero, suc, false, List, [], ◌∷◌, Option, Some, None, IsSome, IfSome}
 use Rattle.std.specs.List.{All}
 use Rattle.form_tree.specs.declared.node.Key.{Key}
 use Rattle.form_tree.specs.Attributes.{with_attr, with_text}
-use Rattle.form_tree.specs.Tree.{Nodes, Tree, place_of, with_state}
+use Rattle.form_tree.specs.Tree.{Nodes, place_of, with_state}
 use Rattle.form_page.specs.declared.edit.Edit.{Edit}
 use Rattle.form_page.specs.declared.edit.Edit.TheVariants.{Attr, Gone, Put, Text}
 use Rattle.form_page.specs.declared.file.File.{File}

@@ -1,5 +1,5 @@
 -- What a page is: the tree of its elements, and the files that were handed in with it.
-use Rattle.std.specs.Prelude.{ℕ, zero, suc, Bool, true, List, map, Option, Some, None, if◌then◌else◌}
+use Rattle.std.specs.Prelude.{ℕ, zero, suc, true, List, map, Option, Some, None, if◌then◌else◌}
 use Rattle.std.specs.List.{slice_get}
 use Rattle.std.specs.Option.{option_and_then}
 use Rattle.form_tree.specs.Tree.{Tree}

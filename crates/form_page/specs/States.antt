@@ -1,12 +1,10 @@
 -- States put into a list of elements, place by place.
-use Rattle.std.specs.Prelude.{ℕ, zero, suc, ◌&&◌, not, Bool, List, [], ◌∷◌, ◌++◌, Option, None, if◌then◌else◌}
-use Rattle.std.specs.List.{list_any, slice_get}
+use Rattle.std.specs.Prelude.{ℕ, zero, suc, ◌&&◌, not, Bool, List, [], ◌∷◌, ◌++◌, Option, if◌then◌else◌}
+use Rattle.std.specs.List.{list_any}
 use Rattle.form_tree.specs.declared.node.Key.{Key}
 use Rattle.form_tree.specs.declared.node.Node.{Node}
 use Rattle.form_tree.specs.declared.node.State.{State}
-use Rattle.form_tree.specs.Elements.{is_select}
 use Rattle.form_tree.specs.RadioGroup.{is_checked, share_group}
-use Rattle.form_tree.specs.Selects.{settled}
 use Rattle.form_tree.specs.Tree.{Nodes}
 use Rattle.form_page.specs.Opening.{is_outdone, unchecked_if, with_state_if}
 
@@ -32,10 +30,6 @@ abbrev pub with_state_at : Nodes → ℕ → Option State → Nodes
 with_state_at [] place state = []
 with_state_at (n ∷ ns) zero state = with_state_if state n ∷ ns
 with_state_at (n ∷ ns) (suc place) state = n ∷ with_state_at ns place state
-
--- of a select the first option that stays selected
-abbrev pub chosen_at : Nodes → Node → Option Key
-chosen_at ns n = if is_select n then slice_get (settled ns n.key) 0 else None
 
 -- the element is checked, and one of these keys is that of a member of its group
 abbrev pub is_outdone_by : Nodes → Node → List Key → Bool

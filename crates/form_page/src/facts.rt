@@ -1,17 +1,14 @@
 // What the page says of each control, for its judgement.
-ghost use Rattle.std.specs.Prelude.{◌≡◌, ◌++◌, ◌&&◌, [], ◌∷◌, ℕ, List, Option, false, map, IfOk, OnOk, Some};
-ghost use Rattle.form_tree.specs.declared.node.Key.{Key};
-ghost use Rattle.form_tree.specs.Elements.{is_among, is_select, passes};
+ghost use Rattle.std.specs.Prelude.{◌≡◌, ◌&&◌, map, IfOk, Some};
+ghost use Rattle.form_tree.specs.Elements.{is_select, passes};
 ghost use Rattle.form_tree.specs.RadioGroup.{is_group_missing};
 ghost use Rattle.form_tree.specs.Selects.{is_select_missing};
-ghost use Rattle.form_tree.specs.Tree.{IsTree, at_key};
-ghost use Rattle.form_groups.specs.Groups.{IsGroup, group_of, keys_of};
+ghost use Rattle.form_tree.specs.Tree.{at_key};
 ghost use Rattle.form_judge.specs.Flags.{facts_of};
 ghost use Rattle.form_owner.specs.Owners.{owners_of};
-ghost use Rattle.form_page.specs.Members.{AreGroupsAmong, facts_at, members_among};
+ghost use Rattle.form_page.specs.Members.{AreGroupsAmong, facts_at};
 
-use crate::elements::{is_radio, is_select};
-use crate::owners::{is_disabled, name_of, owner_of};
+use crate::owners::{is_disabled, is_radio, name_of, owner_of};
 use form_groups::Groups;
 use form_judge::Facts;
 use form_owner::Answer;
@@ -20,15 +17,20 @@ use form_tree::{Node, Tree};
 use std::alloc::{AllocError, Global};
 
 /// The facts of each element, in tree order.
-pub fn all_facts(alloc: Global, tree: &Tree, answers: &[Answer]) -> Result<Vec<Facts>, AllocError>
-    requires { answers.now ≡ owners_of tree.now.nodes }
+pub fn all_facts(
+    alloc: Global,
+    tree: &Tree,
+    answers: &[Answer],
+    groups: &Groups,
+) -> Result<Vec<Facts>, AllocError>
+    requires answers { answers.now ≡ owners_of tree.now.nodes }
+    requires groups { AreGroupsAmong tree.now.nodes groups.now tree.now.nodes }
     ensures { IfOk result (λ facts. facts.items ≡ map (facts_at tree.now.nodes) tree.now.nodes) }
 {
-    let groups = groups_of(alloc, tree, answers)?;
     let nodes = tree.nodes();
     let mut facts = Vec::with_capacity(alloc, nodes.len())?;
     for node in nodes {
-        facts.push(facts_of(tree, answers, &groups, node))?;
+        facts.push(facts_of(tree, answers, groups, node))?;
     }
     Ok(facts)
 }
@@ -50,7 +52,7 @@ fn is_select_missing(tree: &Tree, node: &Node) -> bool
     requires { at_key tree.now.nodes node.now.key ≡ Some node.now }
     ensures { result ≡ (passes is_select tree.now.nodes node.now.key && is_select_missing tree.now.nodes node.now.key) }
 {
-    is_select(node) && missing(tree, node.key)
+    node.tag.is_select() && missing(tree, node.key)
 }
 
 // Whether the element's radio button group lacks a required choice. One without a name is alone.
@@ -69,50 +71,4 @@ fn is_group_missing(tree: &Tree, answers: &[Answer], groups: &Groups, node: &Nod
         return node.has_attr("required") && !node.state.checked;
     }
     groups.missing(owner_of(tree, answers, node.key), name)
-}
-
-// The radio buttons of a page, each in its group.
-fn groups_of(alloc: Global, tree: &Tree, answers: &[Answer]) -> Result<Groups, AllocError>
-    requires { answers.now ≡ owners_of tree.now.nodes }
-    ensures { IfOk result (λ groups. AreGroupsAmong tree.now.nodes groups tree.now.nodes) }
-{
-    let nodes = tree.nodes();
-    let mut groups = Groups::new(alloc);
-    for place in 0..nodes.len() {
-        enter(&mut groups, tree, answers, &nodes[place])?;
-    }
-    Ok(groups)
-}
-
-// One more element: a radio button with a name enters its group, of which it is no member yet.
-fn enter(
-    groups: &mut Groups,
-    tree: &Tree,
-    answers: &[Answer],
-    node: &Node,
-) -> Result<(), AllocError>
-    requires tree { IsTree tree.now.nodes }
-    requires answers { answers.now ≡ owners_of tree.now.nodes }
-    requires there { at_key tree.now.nodes node.now.key ≡ Some node.now }
-    requires new { (owner : Option Key) → (name : List ℕ) → IsGroup owner name
-        → is_among (keys_of (group_of groups.old owner name)) node.now.key ≡ false }
-    ensures { OnOk result ((owner : Option Key) → (name : List ℕ) → IsGroup owner name
-        → group_of groups.new owner name ≡ group_of groups.old owner name
-        ++ members_among tree.now.nodes owner name (node.now ∷ [])) }
-{
-    if !is_radio(node) {
-        return Ok(());
-    }
-    let name = name_of(tree, node.key);
-    if name.is_empty() {
-        return Ok(());
-    }
-    let owner = owner_of(tree, answers, node.key);
-    groups.enter(
-        owner,
-        name,
-        node.key,
-        node.has_attr("required"),
-        node.state.checked,
-    )
 }

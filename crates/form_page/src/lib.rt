@@ -1,23 +1,23 @@
 //! A page of forms: its elements with what their controls keep, as it opens and as it is changed, and
 //! what is seen of each control.
 //!
-//! Contracts see a [`Page`] as its tree and its files. What is kept beside these (the owners, the
-//! compiled patterns, and what is seen of each element, with the verdict on each control) equals its
-//! definition over them by the page's invariant, and no public clause names it.
+//! Contracts see a [`Page`] as its tree and its files. What is kept beside these (the compiled patterns,
+//! the owners, the radio button groups, and what is seen of each element, with the verdict on each
+//! control) equals its definition over them by the page's invariant, and no public clause names it.
 #![tactic(auto)]
 
 mod candidates;
 mod changes;
 mod edit;
-mod elements;
 mod facts;
 mod file;
+mod groups;
 mod invalid;
+mod kept;
 mod opening;
 mod owners;
 mod page;
 mod radios;
-mod selects;
 mod sight;
 mod states;
 mod values;

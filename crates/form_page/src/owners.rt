@@ -7,9 +7,10 @@ ghost use Rattle.form_tree.specs.Ownership.{owner_of};
 ghost use Rattle.form_tree.specs.RadioGroup.{is_radio, name_of, same_name, share_group};
 ghost use Rattle.form_owner.specs.Owners.{owners_of};
 
-use crate::elements::is_radio;
+use form_judge::{is_input, kind_of};
 use form_owner::Answer;
-use form_tree::{Key, Tree};
+use form_tree::{Key, Node, Tree};
+use form_types::Kind;
 
 /// The form owner of an element, by what is kept of each.
 pub fn owner_of(tree: &Tree, answers: &[Answer], key: Key) -> Option<Key>
@@ -41,6 +42,13 @@ pub fn name_of(tree: &Tree, key: Key) -> &str
         Some(name) => name,
         None => "",
     }
+}
+
+/// Whether it is an input in the state radio.
+pub fn is_radio(node: &Node) -> bool
+    ensures { result ≡ is_radio node.now }
+{
+    is_input(node) && matches!(kind_of(node), Kind::Radio)
 }
 
 fn is_radio_at(tree: &Tree, key: Key) -> bool

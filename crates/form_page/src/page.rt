@@ -5,6 +5,7 @@ ghost use Rattle.std.specs.Option.{option_and_then, option_copied, option_map};
 ghost use Rattle.form_tree.specs.Disabling.{is_disabled};
 ghost use Rattle.form_tree.specs.Elements.{is_form, is_submittable, is_submittable_tag, passes};
 ghost use Rattle.form_tree.specs.Ownership.{owner_of};
+ghost use Rattle.form_tree.specs.RadioGroup.{radio_group};
 ghost use Rattle.form_tree.specs.Tree.{IsTreeOfRaws, place_of};
 ghost use Rattle.form_owner.specs.Owners.{moves_of};
 ghost use Rattle.form_page.specs.Editing.{AreThere, edited};
@@ -16,16 +17,16 @@ ghost use Rattle.form_page.specs.Lent.{seen_in};
 
 use crate::changes::changed_keys;
 use crate::edit::{Edit, make_edits};
-use crate::facts::all_facts;
 use crate::file::File;
+use crate::groups::members_of;
 use crate::invalid::count_invalid;
+use crate::kept::{Kept, kept_of};
 use crate::opening::opened_tree;
 use crate::owners::{is_disabled, owner_of};
-use crate::sight::{Sight, all_sights};
-use crate::verdicts::{all_patterns, all_verdicts};
+use crate::sight::Sight;
 use crate::view::{View, view_by};
-use form_judge::{Flags, Steps};
-use form_owner::{Move, Owners};
+use form_judge::{Flags, Steps, all_patterns, fresh_patterns, put_patterns};
+use form_owner::Move;
 use form_pattern::Pattern;
 use form_text::Text;
 use form_tree::{Key, Raw, Tree};
@@ -34,23 +35,23 @@ use std::marker::Model;
 use std::sync::ledger::Ledger;
 
 /// A page of forms: its tree, and the files that were handed in. Contracts see these two. What is
-/// kept beside them equals its definition over them: the owners, the compiled patterns, and what is
-/// seen of each element, with the verdict on each control.
+/// kept beside them equals its definition over them: the compiled patterns, the owners, the radio
+/// button groups, and what is seen of each element, with the verdict on each control.
 #[derive(Drop)]
 pub struct Page {
     alloc: Global,
     tree: Tree,
     files: Vec<File>,
-    owners: Owners,
-    // By place, as the sights.
+    // By place.
     patterns: Vec<Option<Pattern>>,
-    sights: Vec<Option<Sight>>,
+    kept: Kept,
 }
 
 impl Model for Page {
     ghost use Rattle.std.specs.Prelude.{◌≡◌, ◌<◌, ◌^◌, length, map};
     ghost use Rattle.form_judge.specs.Controls.{pattern_of};
     ghost use Rattle.form_owner.specs.Owners.{owners_of};
+    ghost use Rattle.form_page.specs.Members.{AreGroupsAmong};
     ghost use Rattle.form_page.specs.Page.{Page, names_of};
     ghost use Rattle.form_page.specs.Views.{sight_if};
 
@@ -59,9 +60,10 @@ impl Model for Page {
     ghost view = { λ p. record { tree = p.tree; files = p.files.items } };
 
     ghost invariant = { λ p. (length p.tree.nodes < 2 ^ 32)
-        × (p.owners ≡ owners_of p.tree.nodes)
+        × (p.kept.owners ≡ owners_of p.tree.nodes)
         × (p.patterns.items ≡ map pattern_of p.tree.nodes)
-        × (p.sights.items ≡ map (sight_if (names_of p.files.items) p.tree.nodes) p.tree.nodes) };
+        × (p.kept.sights.items ≡ map (sight_if (names_of p.files.items) p.tree.nodes) p.tree.nodes)
+        × AreGroupsAmong p.tree.nodes p.kept.groups p.tree.nodes };
 }
 
 impl Page {
@@ -141,14 +143,30 @@ impl Page {
     pub fn owner(&self, key: Key) -> Option<Key>
         ensures { result ≡ owner_of self.now.tree.nodes key }
     {
-        owner_of(&self.tree, self.owners.answers(), key)
+        owner_of(&self.tree, self.kept.owners.answers(), key)
     }
 
     /// Whether it is a disabled control; false for every other key.
     pub fn disabled(&self, key: Key) -> bool
         ensures { result ≡ is_disabled self.now.tree.nodes key }
     {
-        is_disabled(&self.tree, self.owners.answers(), key)
+        is_disabled(&self.tree, self.kept.owners.answers(), key)
+    }
+
+    /// The members of the radio button group of a radio button, itself included, in tree order; none
+    /// for every other key (HTML, "Radio Button state").
+    pub fn members(&self, key: Key) -> &[Key]
+        ensures { result.now ≡ map (λ n. n.key) (radio_group self.now.tree.nodes key) }
+    {
+        match self.tree.node(key) {
+            Some(node) => members_of(
+                &self.tree,
+                self.kept.owners.answers(),
+                &self.kept.groups,
+                node,
+            ),
+            None => &[],
+        }
     }
 
     /// How many invalid controls a form has: submittable elements that it owns, that are candidates
@@ -162,8 +180,8 @@ impl Page {
         Some(count_invalid(
             &self.tree,
             &self.files,
-            self.owners.answers(),
-            &self.sights,
+            self.kept.owners.answers(),
+            &self.kept.sights,
             form,
         ))
     }
@@ -182,12 +200,13 @@ impl Page {
         ensures { IfOk result (λ moves.
             moves.items ≡ moves_of self.now.tree.nodes key name.now (option_map (λ v. v.now) value.entry)) }
     {
-        self.owners.moves(&self.tree, key, name, value)
+        self.kept.owners.moves(&self.tree, key, name, value)
     }
 
     /// Makes raw changes in their order, and answers the keys of the elements whose views then differ
     /// from those before, in tree order. Each control is judged once, on the counter that is handed
-    /// in. Without memory the page stays as it was.
+    /// in, and a pattern is compiled where the text of its attribute changed. Without memory the page
+    /// stays as it was.
     pub fn edit<L: Ledger>(
         &mut self,
         edits: Vec<Edit>,
@@ -203,9 +222,20 @@ impl Page {
         let mut tree = self.tree.copy()?;
         let mut files = copy_of(&self.files)?;
         make_edits(&mut tree, &mut files, edits)?;
-        let next = page_of(self.alloc, tree, files, steps)?;
-        let keys = changed_keys(self.alloc, next.tree.nodes(), &self.sights, &next.sights)?;
-        *self = next;
+        let mut fresh = fresh_patterns(self.alloc, self.tree.nodes(), tree.nodes())?;
+        let kept = kept_of(
+            self.alloc,
+            &tree,
+            &files,
+            &mut self.patterns,
+            &mut fresh,
+            steps,
+        )?;
+        let keys = changed_keys(self.alloc, tree.nodes(), &self.kept.sights, &kept.sights)?;
+        put_patterns(&mut self.patterns, fresh);
+        self.tree = tree;
+        self.files = files;
+        self.kept = kept;
         Ok(keys)
     }
 
@@ -214,7 +244,7 @@ impl Page {
         ensures { option_copied result ≡ sight_at self.now key }
     {
         match self.tree.place(key) {
-            Some(place) => sight_in(&self.sights, place),
+            Some(place) => sight_in(&self.kept.sights, place),
             None => None,
         }
     }
@@ -288,17 +318,15 @@ fn page_of<L: Ledger>(
     ensures ok { IfOk result (λ page. page ≡ record { tree = tree; files = files.items }) }
     ensures bound { steps.new ≤ steps.old + count_by is_submittable tree.nodes }
 {
-    let owners = Owners::build(alloc, &tree)?;
-    let facts = all_facts(alloc, &tree, owners.answers())?;
-    let mut patterns = all_patterns(alloc, &tree)?;
-    let verdicts = all_verdicts(alloc, &tree, &facts, &mut patterns, steps)?;
-    let sights = all_sights(alloc, &tree, &files, owners.answers(), &verdicts)?;
+    let mut patterns = all_patterns(alloc, tree.nodes())?;
+    // Nothing has changed yet.
+    let mut fresh = fresh_patterns(alloc, tree.nodes(), tree.nodes())?;
+    let kept = kept_of(alloc, &tree, &files, &mut patterns, &mut fresh, steps)?;
     Ok(Page {
         alloc,
         tree,
         files,
-        owners,
         patterns,
-        sights,
+        kept,
     })
 }

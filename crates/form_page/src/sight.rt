@@ -7,11 +7,10 @@ ghost use Rattle.form_page.specs.Page.{names_of};
 ghost use Rattle.form_page.specs.Views.{is_checkable, is_checkable_kind, is_seen, sight_if, verdict_of};
 
 use crate::candidates::{in_datalists, is_candidate};
-use crate::elements::{is_input, is_option, is_submittable};
 use crate::file::File;
 use crate::owners::is_disabled;
 use crate::values::value_of;
-use form_judge::{Verdict, kind_of};
+use form_judge::{Verdict, is_input, kind_of};
 use form_owner::Answer;
 use form_text::Text;
 use form_tree::{Node, Tree};
@@ -76,7 +75,7 @@ fn sight_if(
     Ok(Some(Sight {
         value: value_of(alloc, tree, files, node)?,
         checked: is_checkable(node) && node.state.checked,
-        selected: is_option(node) && node.state.selected,
+        selected: node.tag.is_option() && node.state.selected,
         candidate,
         verdict,
     }))
@@ -85,7 +84,7 @@ fn sight_if(
 fn is_seen(node: &Node) -> bool
     ensures { result ≡ is_seen node.now }
 {
-    is_submittable(node) || is_option(node)
+    node.tag.is_submittable() || node.tag.is_option()
 }
 
 fn is_checkable(node: &Node) -> bool

@@ -3,18 +3,17 @@ ghost use Rattle.std.specs.Prelude.{◌≡◌, [], Some, IfOk, true};
 ghost use Rattle.std.specs.List.{slice_get};
 ghost use Rattle.std.specs.Option.{option_and_then, option_copied, option_map, option_map_or};
 ghost use Rattle.form_text.specs.LineEnds.{with_lf};
-ghost use Rattle.form_tree.specs.Elements.{is_option, is_select, passes};
+ghost use Rattle.form_tree.specs.Elements.{is_option};
 ghost use Rattle.form_tree.specs.Selects.{option_value};
 ghost use Rattle.form_tree.specs.Tree.{at_key};
-ghost use Rattle.form_tree.specs.Value.{fake_path, file_name, input_value, select_value, value_at};
+ghost use Rattle.form_tree.specs.Value.{fake_path, file_name, input_value, value_at};
 ghost use Rattle.form_page.specs.Page.{names_of};
 
-use crate::elements::{is_button, is_input, is_option, is_select, is_textarea, value_attr_or};
 use crate::file::File;
-use form_judge::kind_of;
-use form_select::{first_selected, option_value};
+use form_judge::{is_button, is_input, is_textarea, kind_of, value_attr_or};
+use form_select::{option_value, select_value};
 use form_text::{Text, normalise_lf};
-use form_tree::{Key, Node, Tree};
+use form_tree::{Node, Tree};
 use form_types::{Mode, mode_of};
 use std::alloc::{AllocError, Global};
 
@@ -32,13 +31,13 @@ pub fn value_of(alloc: Global, tree: &Tree, files: &[File], node: &Node) -> Resu
     if is_textarea(node) {
         return raw_value(alloc, node);
     }
-    if is_select(node) {
+    if node.tag.is_select() {
         return select_value(alloc, tree, node.key);
     }
     if is_button(node) {
         return Text::from_str(alloc, value_attr_or(node, ""));
     }
-    if is_option(node) {
+    if node.tag.is_option() {
         return option_text(alloc, tree, node);
     }
     Ok(Text::from_string(String::new(alloc)))
@@ -58,19 +57,6 @@ fn option_text(alloc: Global, tree: &Tree, node: &Node) -> Result<Text, AllocErr
 {
     let value = option_value(alloc, tree, node.key)?;
     Ok(Text::from_string(value))
-}
-
-fn select_value(alloc: Global, tree: &Tree, select: Key) -> Result<Text, AllocError>
-    requires { passes is_select tree.now.nodes select ≡ true }
-    ensures { IfOk result (λ value. value ≡ select_value tree.now.nodes select) }
-{
-    match first_selected(tree, select) {
-        Some(option) => {
-            let value = option_value(alloc, tree, option)?;
-            Ok(Text::from_string(value))
-        }
-        None => Ok(Text::from_string(String::new(alloc))),
-    }
 }
 
 fn input_value(alloc: Global, files: &[File], node: &Node) -> Result<Text, AllocError>

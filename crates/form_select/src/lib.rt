@@ -7,8 +7,10 @@ mod elements;
 mod options;
 mod selects;
 mod settling;
+mod states;
 mod walk;
 
 pub use options::{option_disabled, option_value, select_of};
-pub use selects::{display_size, first_selected, missing, placeholder};
+pub use selects::{display_size, first_selected, missing, placeholder, select_value};
 pub use settling::{settle, settled};
+pub use states::settled_states;

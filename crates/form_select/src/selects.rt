@@ -1,18 +1,20 @@
 // What a select is.
-ghost use Rattle.std.specs.Prelude.{◌≡◌, IfSome, codes, false, find, true};
+ghost use Rattle.std.specs.Prelude.{◌≡◌, IfOk, IfSome, codes, false, find, true};
 ghost use Rattle.std.specs.List.{list_any, slice_get};
 ghost use Rattle.std.specs.Option.{option_and_then, option_map_or};
 ghost use Rattle.form_text.specs.Integers.{non_negative_integer};
 ghost use Rattle.form_tree.specs.Elements.{is_option, is_select, passes, same_key};
 ghost use Rattle.form_tree.specs.Selects.{display_size, is_choice_made, is_multiple, is_select_missing, is_selected, key_if_placeholder, may_have_placeholder, options, placeholder};
 ghost use Rattle.form_tree.specs.Tree.{at_key, attr_of};
+ghost use Rattle.form_tree.specs.Value.{select_value};
 ghost use Rattle.form_select.specs.Options.{options_at};
 
 use crate::elements::{has_attr, is_child_of};
-use crate::options::has_empty_value;
+use crate::options::{has_empty_value, option_value};
 use crate::walk::{descendants, option_at};
-use form_text::parse_nonneg;
+use form_text::{Text, parse_nonneg};
 use form_tree::{Key, Tree};
+use std::alloc::{AllocError, Global};
 
 // The display size of a select without a `size`.
 const SIZE_OF_ONE_CHOICE: u32 = 1;
@@ -174,6 +176,21 @@ fn selected_at(tree: &Tree, select: Key, place: usize) -> Option<Key>
             None
         },
         None => None,
+    }
+}
+
+/// The value of a select: that of its first selected option, and empty where none is selected (HTML,
+/// "The select element", "value").
+pub fn select_value(alloc: Global, tree: &Tree, select: Key) -> Result<Text, AllocError>
+    requires { passes is_select tree.now.nodes select ≡ true }
+    ensures { IfOk result (λ value. value ≡ select_value tree.now.nodes select) }
+{
+    match first_selected(tree, select) {
+        Some(option) => {
+            let value = option_value(alloc, tree, option)?;
+            Ok(Text::from_string(value))
+        }
+        None => Ok(Text::from_string(String::new(alloc))),
     }
 }
 

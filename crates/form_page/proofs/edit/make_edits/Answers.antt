@@ -1,4 +1,4 @@
-use Rattle.std.proofs.Common.{◌≡◌, ap}
+use Rattle.std.proofs.Common.{ap}
 use Rattle.form_tree.specs.Tree.{Tree}
 use Rattle.form_page.specs.Page.{page_of}
 use Rattle.form_page.proofs.EditLaws.{edit_made, edits_step, still_there}

@@ -1,7 +1,7 @@
-use Rattle.std.proofs.Common.{◌≡◌, ◌<◌, length}
+use Rattle.std.proofs.Common.{◌<◌, length}
 use Rattle.form_page.specs.Members.{facts_at}
 use Rattle.form_page.proofs.CountLaws.{map_more}
-use Rattle.form_page.proofs.OwnerLaws.{at_own_key}
+use Rattle.form_select.proofs.Laws.{at_own_key}
 use Rattle.form_page.proofs.facts.all_facts.Goals as goal
 
 pub facts_of-requires-clause-there : goal.facts_of-requires-clause-there

@@ -1,7 +1,5 @@
-use Rattle.std.proofs.Common.{◌≡◌, List, ℕ, true, sym, ◌∙◌, subst, ap}
-use Rattle.std.specs.Prelude.{◌==◌, length}
+use Rattle.std.proofs.Common.{◌≡◌, List, ℕ, true, sym, ◌∙◌, subst}
 use Rattle.form_tree.specs.Elements.{is_empty_text}
-use Rattle.form_tree.specs.RadioGroup.{name_of}
 use Rattle.form_page.proofs.MemberLaws.{alone_optional, alone_required, empty_name, entered_lacks, is_group, no_group}
 use Rattle.form_page.proofs.facts.is_group_missing.Goals as goal
 

@@ -1,5 +1,4 @@
-use Rattle.std.proofs.Common.{◌≡◌, ◌<◌, Some, true, false, get_or, length, sym, ap, ◌∙◌}
-use Rattle.std.specs.List.{slice_get}
+use Rattle.std.proofs.Common.{◌<◌, true, false, get_or, length, ap, ◌∙◌}
 use Rattle.form_page.specs.Changes.{counts_for}
 use Rattle.form_page.specs.Invalid.{is_invalid_in}
 use Rattle.form_page.specs.Page.{names_of}

@@ -1,4 +1,4 @@
-use Rattle.std.proofs.Common.{◌≡◌, ℕ, List, true, ap}
+use Rattle.std.proofs.Common.{ℕ, List, true, ap}
 use Rattle.std.specs.String.{string_bytes}
 use Rattle.form_page.proofs.FileLaws.{one_more_file}
 use Rattle.form_page.proofs.page.new_files.Goals as goal

@@ -1,4 +1,4 @@
-use Rattle.std.proofs.Common.{◌≡◌, ◌-◌, length, refl}
+use Rattle.std.proofs.Common.{◌-◌, length, refl}
 use Rattle.form_page.proofs.RadioLaws.{outdone_step}
 use Rattle.form_page.proofs.radios.outdone.Goals as goal
 

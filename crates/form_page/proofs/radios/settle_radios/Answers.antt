@@ -1,4 +1,4 @@
-use Rattle.std.proofs.Common.{◌≡◌, ap, ◌∙◌}
+use Rattle.std.proofs.Common.{ap, ◌∙◌}
 use Rattle.form_tree.specs.Tree.{Nodes}
 use Rattle.form_page.specs.States.{with_states}
 use Rattle.form_page.proofs.StateLaws.{radios_unchecked}

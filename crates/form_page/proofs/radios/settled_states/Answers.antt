@@ -1,4 +1,4 @@
-use Rattle.std.proofs.Common.{◌≡◌, length, sym, ap, ◌∙◌}
+use Rattle.std.proofs.Common.{length, sym, ap, ◌∙◌}
 use Rattle.form_page.proofs.RadioLaws.{marks_long}
 use Rattle.form_page.proofs.radios.settled_states.Goals as goal
 

@@ -1,9 +1,9 @@
-use Rattle.std.proofs.Common.{◌≡◌, ◌<◌, List, Option, get_or, length, ap, ◌∙◌}
+use Rattle.std.proofs.Common.{◌<◌, List, Option, get_or, length, ap, ◌∙◌}
 use Rattle.form_judge.specs.declared.flags.Flags.{Flags}
 use Rattle.form_page.specs.Page.{names_of}
 use Rattle.form_page.specs.Views.{sight_if, verdict_of}
 use Rattle.form_page.proofs.CountLaws.{map_more}
-use Rattle.form_page.proofs.OwnerLaws.{at_own_key, kept_there, read_there}
+use Rattle.form_select.proofs.Laws.{at_own_key, kept_there, read_there}
 use Rattle.form_page.proofs.sight.all_sights.Goals as goal
 
 pub is_candidate-candidate-requires-clause-there : goal.is_candidate-candidate-requires-clause-there

@@ -1,4 +1,4 @@
-use Rattle.std.proofs.Common.{◌≡◌, ◌∙◌, refl, sym, ap}
+use Rattle.std.proofs.Common.{◌∙◌, refl, sym, ap}
 use Rattle.form_tree.specs.Tree.{Nodes}
 use Rattle.form_page.specs.States.{with_state_at}
 use Rattle.form_page.proofs.StateLaws.{key_placed, past_the_end, state_written, without_state}

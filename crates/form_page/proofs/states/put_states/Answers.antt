@@ -1,4 +1,4 @@
-use Rattle.std.proofs.Common.{◌≡◌, sym, ◌∙◌}
+use Rattle.std.proofs.Common.{sym, ◌∙◌}
 use Rattle.form_page.proofs.StateLaws.{all_put, put_step}
 use Rattle.form_page.proofs.states.put_states.Goals as goal
 

@@ -1,4 +1,4 @@
-use Rattle.std.proofs.Common.{◌≡◌, length}
+use Rattle.std.proofs.Common.{◌≡◌}
 use Rattle.form_page.specs.States.{with_states}
 use Rattle.form_page.proofs.states.put_states.Given as goal
 

@@ -9,5 +9,6 @@ abbrev pub invariant-loop-place : goal.invariant-loop-place
 invariant-loop-place g l = record {
   judged : l.verdicts.items ≡ map (verdict_of l.tree.nodes) (take l.place l.nodes);
   kept : l.patterns ≡ l.fn.patterns;
+  fresh : l.fresh ≡ l.fn.fresh;
   ticks : l.steps ≤ l.fn.steps + count_by is_submittable (take l.place l.nodes);
 }

@@ -1,4 +1,3 @@
-use Rattle.std.proofs.Common.{◌≡◌}
 use Rattle.form_page.proofs.OpeningLaws.{opened_bound, opened_few}
 use Rattle.form_page.proofs.page.Page.from_raws.Goals as goal
 

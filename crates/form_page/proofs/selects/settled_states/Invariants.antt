@@ -1,7 +1,0 @@
-use Rattle.std.proofs.Common.{◌≡◌, map, take}
-use Rattle.form_page.specs.Opening.{settled_option}
-use Rattle.form_page.proofs.selects.settled_states.Given as goal
-
--- the states of the elements so far
-abbrev pub invariant-loop-node : goal.invariant-loop-node
-invariant-loop-node l = l.states.items ≡ map (settled_option l.tree.nodes) (take l.node-index l.nodes)

@@ -1,3 +1,5 @@
 pub mod Ports
 pub mod Memory
 pub mod Real
+pub mod Written
+pub mod Shelf

@@ -10,7 +10,7 @@ use std::alloc::{AllocError, Global};
 use std::marker::Model;
 
 // Puts the bytes from `at` on into the front of the room.
-fn put_front(room: &mut [u8], bytes: &[u8], at: usize, count: usize)
+pub fn put_front(room: &mut [u8], bytes: &[u8], at: usize, count: usize)
     requires fits { count ≤ length room.old }
     requires there { at + count ≤ length bytes.now }
     ensures { drop at bytes.now ≡ take count room.new ++ drop (at + count) bytes.now }
@@ -19,7 +19,7 @@ fn put_front(room: &mut [u8], bytes: &[u8], at: usize, count: usize)
 }
 
 // Whether the call of that number is one that fails.
-fn is_listed(fail: &[usize], call: u64) -> bool
+pub fn is_listed(fail: &[usize], call: u64) -> bool
     ensures { result ≡ list_any (λ n. n == call) fail.now }
 {
     let call = call as usize;

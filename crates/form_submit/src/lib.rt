@@ -1,8 +1,18 @@
-//! The submission of a form.
+//! The submission of a form, and how a request is written.
+//!
+//! A request is written piece by piece: the bytes of its body are gathered in a buffer of 1,024 bytes,
+//! so that neither a body nor a file is ever held whole.
 //!
 //! The URL Standard and the writing of pairs are those of the crates `url` and `form_urlencoded`:
 //! the definitions cite their own.
 #![tactic(auto)]
+
+mod body;
+mod file;
+mod gatherer;
+mod parts;
+mod request;
+mod sending;
 
 ghost use Rattle.std.specs.Prelude.{◌≡◌, [], IfOk, string_bytes};
 ghost use Rattle.form_urlencoded.specs.Form.{append_pair};
@@ -11,6 +21,8 @@ ghost use Rattle.form_submit.specs.First.{parsed_action, request_to, first_reque
 
 use form_text::Text;
 use form_urlencoded::Serializer;
+pub use request::{Piece, Request, SendFault};
+pub use sending::write_request;
 use std::alloc::{AllocError, Global};
 use url::{ParseError, ParseResult, Url};
 
@@ -49,7 +61,7 @@ fn encode_pair(alloc: Global, name: &str, value: &str) -> Result<String, AllocEr
 }
 
 // The request to a URL.
-fn request(alloc: Global, mut url: Url, name: &str, value: &str) -> Result<First, AllocError>
+fn ask(alloc: Global, mut url: Url, name: &str, value: &str) -> Result<First, AllocError>
     ensures { IfOk result (λ first. first ≡ request_to url name.now value.now) }
 {
     match url.scheme() {
@@ -80,7 +92,7 @@ pub fn get_request(
     ensures { IfOk result (λ first. first ≡ first_request base.now action.now name.now value.now) }
 {
     match parse_action(base, action) {
-        Ok(url) => request(alloc, url, name, value),
+        Ok(url) => ask(alloc, url, name, value),
         Err(ParseError::OutOfMemory | ParseError::Overflow) => Err(AllocError),
         Err(_) => Ok(First::Action),
     }

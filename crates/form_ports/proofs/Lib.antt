@@ -1,0 +1,4 @@
+pub mod WrittenLaws
+pub mod ShelfLaws
+pub mod ReadingLaws
+pub mod Laws

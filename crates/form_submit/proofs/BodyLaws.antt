@@ -1,0 +1,52 @@
+-- The pieces of a printed body.
+use Rattle.std.proofs.Common.{◌≡◌, ℕ, zero, suc, ◌*◌, ◌<◌, ◌≤◌, List, [], ◌∷◌, ◌++◌, length, take, drop, refl, sym, ap, subst, ◌∙◌, arith, append_assoc, append-nil, length-append, take-append-drop}
+use Rattle.std.proofs.lemmas.List.{take_all, length-take-le, length-drop}
+use Rattle.std.proofs.Math.Seq.{take-append_seam, drop-append_seam}
+use Rattle.std.specs.Int.{div_ceil}
+use Rattle.form_submit.specs.PrintedRequest.{pieces_of, data_lines, printed_data}
+
+pub printed_data-none : printed_data [] ≡ []
+unfolding printed_data pieces_of
+printed_data-none = refl
+
+-- fewer bytes than two pieces are one piece
+pieces_of-one : (bytes : List ℕ) → 0 < length bytes → length bytes ≤ 1024 → pieces_of bytes ≡ bytes ∷ []
+unfolding pieces_of
+pieces_of-one bytes some fits =
+    let count : div_ceil (length bytes) 1024 ≡ 1 = omega (arith, some, fits) in
+    rw count (ap (λ b. b ∷ []) (take_all 1024 bytes fits))
+
+pub printed_data-one : (bytes : List ℕ) → 0 < length bytes → length bytes ≤ 1024 → printed_data bytes ≡ data_lines bytes
+unfolding printed_data
+printed_data-one bytes some fits = rw (pieces_of-one bytes some fits) (append-nil (data_lines bytes))
+
+-- a whole piece at the front is the first
+pieces_of-whole : (front more : List ℕ) → length front ≡ 1024 → pieces_of (front ++ more) ≡ front ∷ pieces_of more
+unfolding pieces_of
+pieces_of-whole front more size =
+    let count : div_ceil (length (front ++ more)) 1024 ≡ suc (div_ceil (length more) 1024) =
+    omega (arith, size, length-append front more) in
+    let first : take 1024 (front ++ more) ≡ front = let P : ℕ → Type 0 = λ n. take n (front ++ more) ≡ front in subst P size (take-append_seam front more) in
+    let rest : drop 1024 (front ++ more) ≡ more = let P : ℕ → Type 0 = λ n. drop n (front ++ more) ≡ more in subst P size (drop-append_seam front more) in
+    rw (count, first, rest) refl
+
+printed_data-whole : (front more : List ℕ) → length front ≡ 1024 → printed_data (front ++ more) ≡ data_lines front ++ printed_data more
+unfolding printed_data
+printed_data-whole front more size = rw (pieces_of-whole front more size) refl
+
+-- whole pieces are printed, and then the rest
+pub printed_data-append : (pieces : ℕ) (printed more : List ℕ) → length printed ≡ pieces * 1024
+    → printed_data (printed ++ more) ≡ printed_data printed ++ printed_data more
+printed_data-append zero [] more size = ap (λ d. d ++ printed_data more) (sym printed_data-none)
+printed_data-append zero (b ∷ printed) more size = absurd (omega (arith, size))
+printed_data-append (suc pieces) printed more size =
+    let front = take 1024 printed in
+    let back = drop 1024 printed in
+    let split : printed ≡ front ++ back = sym (take-append-drop 1024 printed) in
+    let first : length front ≡ 1024 = length-take-le 1024 printed (omega (arith, size)) in
+    let others : length back ≡ pieces * 1024 = omega (arith, size, length-drop 1024 printed) in
+    ap (λ p. printed_data (p ++ more)) split ∙ ap printed_data (append_assoc front back more)
+    ∙ printed_data-whole front (back ++ more) first
+    ∙ ap (λ d. data_lines front ++ d) (printed_data-append pieces back more others)
+    ∙ sym (append_assoc (data_lines front) (printed_data back) (printed_data more))
+    ∙ ap (λ d. d ++ printed_data more) (sym (printed_data-whole front back first) ∙ ap printed_data (sym split))

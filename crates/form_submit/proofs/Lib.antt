@@ -1,0 +1,5 @@
+mod BodyLaws
+mod FileLaws
+mod GatherLaws
+mod RequestLaws
+mod SendLaws

@@ -1,0 +1,2 @@
+-- The laws that other crates build on.
+pub use Rattle.form_acts.proofs.ActSound.{act_sound}

@@ -1,0 +1,23 @@
+mod ActLaws
+mod ActSound
+mod AttrLaws
+mod Bounds
+mod ClickRows
+mod Counts
+mod EditedLaws
+mod Groups
+pub mod Laws
+mod Marks
+mod Moves
+mod OneElement
+mod ResetLaws
+mod Rows
+mod SelectAttrs
+mod Selectedness
+mod Shapes
+mod Sound
+mod SoundLaws
+mod Still
+mod TypeLaws
+mod ValueLaws
+mod Within

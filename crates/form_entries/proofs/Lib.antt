@@ -1,0 +1,4 @@
+mod EntryLaws
+mod LengthLaws
+mod OptionLaws
+mod UpwardLaws

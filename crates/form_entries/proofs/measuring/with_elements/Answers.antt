@@ -1,0 +1,22 @@
+use Rattle.std.proofs.Common.{◌≡◌, ◌+◌, drop, sym, ap, ◌∙◌, arith}
+use Rattle.std.specs.List.{flat_map}
+use Rattle.form_entries.specs.Below.{measured}
+use Rattle.form_entries.specs.EntryList.{entries_by, entries_of}
+use Rattle.form_entries.proofs.LengthLaws.{measured_end, measured_step}
+use Rattle.form_entries.proofs.measuring.with_elements.Goals as goal
+
+pub loop-node-preserved : goal.loop-node-preserved
+loop-node-preserved c =
+    let g = entries_of c.args.page.now c.args.form c.args.submitter c.args.at in
+    let i = c.loop-node.node-index in (
+      ap (λ t. measured t (flat_map g (drop (i + 1) c.args.nodes.now)))
+          (c.with_entries-total.ensures ∙ ap (λ gift. measured c.loop-node.total (entries_by c.args.page.now c.args.at c.node-item.result gift)) c.gift_of-gift.ensures)
+          ∙ measured_step g c.args.nodes.now i c.node-item.result c.node-item.result c.loop-node.total c.loop-node-test.true c.node-item.is
+          ∙ c.loop-node.invariant.0,
+      omega arith,
+    )
+
+pub returns : goal.returns
+returns c =
+    let g = entries_of c.args.page.now c.args.form c.args.submitter c.args.at in
+    measured_end g c.args.nodes.now c.loop-node.node-index c.loop-node.total (omega (arith, c.loop-node-test.false)) c.loop-node.invariant.1 ∙ c.loop-node.invariant.0

@@ -1,0 +1,32 @@
+-- What stands below an element, by the places of parents.
+use Rattle.std.specs.Prelude.{ℕ, ◌+◌, nat_le, Bool, false, List, [], ◌∷◌, length, if◌then◌else◌, ◌&&◌}
+use Rattle.std.specs.Option.{option_and_then, option_map_or}
+use Rattle.form_tree.specs.declared.node.Key.{Key}
+use Rattle.form_tree.specs.declared.node.Node.{Node}
+use Rattle.form_tree.specs.Elements.{is_empty_text}
+use Rattle.form_tree.specs.Selects.{is_option_of}
+use Rattle.form_tree.specs.Tree.{Nodes, place_of}
+use Rattle.form_encode.specs.declared.entry.Entry.{Entry}
+use Rattle.form_page.specs.Page.{Page}
+use Rattle.form_entries.specs.EntryList.{capped, entries_length, is_sent, text_entry, value_text}
+
+-- the element's parent stands at the place or behind it
+abbrev pub is_below : Nodes → ℕ → Node → Bool
+is_below ns place n = option_map_or (nat_le place) (option_and_then (place_of ns) n.parent) false
+
+-- an option of the select that is selected and not disabled
+abbrev pub is_sent_by : Nodes → Key → Node → Bool
+is_sent_by ns s n = is_option_of ns s n.key && is_sent ns n
+
+-- the entry of an element as an option of the select, under that name
+abbrev pub entry_by : Page → Key → List ℕ → Node → List Entry
+entry_by page s name n =
+    if is_sent_by page.tree.nodes s n then text_entry name (value_text page n.key) ∷ [] else []
+
+-- a number of bytes with those of some entries besides
+abbrev pub measured : ℕ → List Entry → ℕ
+measured total entries = capped (total + entries_length entries)
+
+-- the bytes of what stands before the axis in the name of a coordinate
+abbrev pub coordinate_length : List ℕ → ℕ
+coordinate_length name = if is_empty_text name then 0 else length name + 1

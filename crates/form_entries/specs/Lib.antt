@@ -1,0 +1,2 @@
+pub mod EntryList
+pub mod Below

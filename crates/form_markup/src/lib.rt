@@ -14,8 +14,6 @@ mod piece;
 mod raws;
 mod reading;
 mod stack;
-#[cfg(test)]
-mod tests;
 
 pub use fault::PageFault;
 pub use form_tokens::{MOST_ATTRIBUTES, MOST_VALUE};

@@ -3,6 +3,8 @@
 #![tactic(auto)]
 
 #[cfg(test)]
+mod markup;
+#[cfg(test)]
 mod owners;
 #[cfg(test)]
 mod pages;

@@ -6,7 +6,6 @@ use Rattle.std.specs.Str.Lossy.{utf8_valid_len}
 use Rattle.std.proofs.lemmas.Str.{is_utf8-from_IsUtf8}
 use Rattle.form_text.specs.LineEnds.{with_lf}
 use Rattle.form_tree.specs.declared.node.Raw.{Raw}
-use Rattle.form_tree.specs.declared.node.Tag.{Tag}
 use Rattle.form_markup.specs.Answer.{answer_of}
 use Rattle.form_markup.specs.Spelling.{IsRead}
 use Rattle.form_tokens.specs.declared.fault.Fault.TheVariants as faults

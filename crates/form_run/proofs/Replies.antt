@@ -3,9 +3,9 @@ use Rattle.std.proofs.Common.{◌≡◌, ℕ, List, [], ◌∷◌, ◌++◌, sym
 use Rattle.std.specs.Prelude.{Option}
 use Rattle.std.specs.Io.KnownBytes.{append_known}
 use Rattle.form_run.specs.Lines.{lines_of}
-use Rattle.form_run.specs.Moved.{WrotePart, WroteUpTo}
+use Rattle.form_ports.specs.Written.{WrotePart, WroteUpTo}
 use Rattle.form_run.specs.Session.{Session, reply, replies}
-use Rattle.form_run.proofs.MovedBytes.{WroteUpTo-more, WroteUpTo-part, WroteUpTo-end}
+use Rattle.form_ports.proofs.Laws.{WroteUpTo-more, WroteUpTo-part, WroteUpTo-end}
 
 replies-line : (session : Session) (lines : List (List ℕ)) (line : List ℕ) (more : List (List ℕ)) → lines ≡ line ∷ more
     → replies session lines ≡ (reply session line).0 ++ replies (reply session line).1 more

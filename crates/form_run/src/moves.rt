@@ -1,11 +1,11 @@
-// All of a source, and all of a text to a sink.
-ghost use Rattle.std.specs.Prelude.{◌≡◌, ℕ, ◌+◌, ◌<◌, ◌≤◌, ◌-◌, List, length, take, drop, IfOk, IfSome, OnOk, OnErr, vec_len};
-ghost use Rattle.std.specs.Io.KnownBytes.{prepend_known, append_known, IsAtEnd};
+// All of a source.
+ghost use Rattle.std.specs.Prelude.{◌≡◌, ℕ, ◌+◌, ◌<◌, ◌≤◌, ◌-◌, List, length, take, drop, IfOk, IfSome, OnOk, vec_len};
+ghost use Rattle.std.specs.Io.KnownBytes.{prepend_known, IsAtEnd};
 ghost use Rattle.form_ports.specs.Ports.{Rose, GotWithin, ReadCounts, read_bytes};
 ghost use Rattle.form_run.specs.Limits.{most_input, too_many};
-ghost use Rattle.form_run.specs.Moved.{Gave, WrotePart};
+ghost use Rattle.form_run.specs.Moved.{Gave};
 
-use form_ports::{Got, Sink, Source, Took};
+use form_ports::{Got, Source};
 use std::alloc::{AllocError, Global};
 
 /// One byte more than an input may have.
@@ -85,26 +85,4 @@ pub fn read_all<S: Source>(alloc: Global, source: &mut S) -> Result<Vec<u8>, Rea
         }
     }
     Err(ReadStop::TooLong)
-}
-
-/// The sink failed.
-#[derive(Clone, Copy, Debug, PartialEq, Eq)]
-pub struct WriteFault;
-
-/// Writes the whole text.
-pub fn write_all<K: Sink>(sink: &mut K, text: &[u8]) -> Result<(), WriteFault>
-    ensures whole { OnOk result (K.written sink.new ≡ append_known (K.written sink.old) text.now) }
-    ensures part { WrotePart (K.written sink.old) (K.written sink.new) text.now }
-    ensures fault { OnErr result (Rose (K.faults sink.old) (K.faults sink.new)) }
-    ensures later { K.faults sink.old ≤ K.faults sink.new }
-{
-    let mut done = 0;
-    'writing: while done < text.len() {
-        let (_, rest) = text.split_at(done);
-        match sink.write(rest) {
-            Took::Bytes(count) => done += count,
-            Took::Failed => return Err(WriteFault),
-        }
-    }
-    Ok(())
 }

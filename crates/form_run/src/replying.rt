@@ -3,13 +3,12 @@ ghost use Rattle.std.specs.Prelude.{◌≡◌, ◌≤◌, OnOk};
 ghost use Rattle.std.specs.Io.KnownBytes.{append_known};
 ghost use Rattle.form_ports.specs.Ports.{Rose};
 ghost use Rattle.form_run.specs.Lines.{lines_of};
-ghost use Rattle.form_run.specs.Moved.{WrotePart};
+ghost use Rattle.form_ports.specs.Written.{WrotePart};
 ghost use Rattle.form_run.specs.Session.{reply, replies};
 
 use crate::lines::first_line;
-use crate::moves::write_all;
 use crate::session::Session;
-use form_ports::Sink;
+use form_ports::{Sink, write_all};
 use std::alloc::Global;
 
 /// Why not all was written.

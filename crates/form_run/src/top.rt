@@ -7,14 +7,15 @@ ghost use Rattle.form_run.specs.Lines.{lines_of};
 ghost use Rattle.form_tree.specs.Tree.{IsTreeOfRaws};
 ghost use Rattle.form_run.specs.Page.{is_first_page};
 ghost use Rattle.form_run.specs.Limits.{most_input, too_many};
-ghost use Rattle.form_run.specs.Moved.{Gave, WrotePart};
+ghost use Rattle.form_ports.specs.Written.{WrotePart};
+ghost use Rattle.form_run.specs.Moved.{Gave};
 ghost use Rattle.form_run.specs.Transcript.{base_of, transcript, expected_text, expected_end, PageIs, IsEnd, IsSilent, IsReadingEnd, IsWritingEnd, IsWhole, code_of};
 
-use crate::moves::{ReadStop, read_all, write_all};
+use crate::moves::{ReadStop, read_all};
 use crate::replying::{Stop, serve_all};
 use crate::session::Session;
 use crate::taken::{PageStop, page_of_input};
-use form_ports::{Blob, Sink, Source};
+use form_ports::{Blob, Sink, Source, write_all};
 use form_tree::Raw;
 use std::alloc::Global;
 use url::{ParseError, Url};

@@ -2,7 +2,7 @@ use Rattle.std.proofs.Common.{◌≤◌, length}
 use denote.Shadow.{shadow}
 use denote.Text.{Utf8}
 use Rattle.form_run.specs.Lines.{lines_of}
-use Rattle.form_run.specs.Moved.{WroteUpTo}
+use Rattle.form_ports.specs.Written.{WroteUpTo}
 use Rattle.form_run.specs.Session.{replies}
 use Rattle.form_run.proofs.replying.serve_all.Given as goal
 

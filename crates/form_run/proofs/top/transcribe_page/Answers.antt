@@ -1,5 +1,5 @@
 use Rattle.std.proofs.Common.{refl}
-use Rattle.form_run.proofs.MovedBytes.{WrotePart-front, WrotePart-later, written-then}
+use Rattle.form_ports.proofs.Laws.{WrotePart-front, WrotePart-later, written-then}
 use Rattle.form_run.proofs.top.transcribe_page.Goals as goal
 
 pub returns-in-Err-write_all-clause-part : goal.returns-in-Err-write_all-clause-part

@@ -45,12 +45,10 @@ fn push_unless(keys: &mut Vec<Key>, same: bool, key: Key) -> Result<(), AllocErr
 fn same_sights(before: &Option<Sight>, after: &Option<Sight>) -> bool
     ensures { result ≡ same_sights before.now after.now }
 {
-    match before {
-        Some(before) => match after {
-            Some(after) => same_view(view_by(before), view_by(after)),
-            None => false,
-        },
-        None => after.is_none(),
+    match (before, after) {
+        (Some(before), Some(after)) => same_view(view_by(before), view_by(after)),
+        (None, None) => true,
+        _ => false,
     }
 }
 

@@ -96,13 +96,8 @@ impl Page {
     pub fn flags(&self, key: Key) -> Option<Flags>
         ensures { result ≡ flags_of_key self.now key }
     {
-        match self.sight(key) {
-            Some(sight) => match &sight.verdict {
-                Some(verdict) => Some(verdict.flags()),
-                None => None,
-            },
-            None => None,
-        }
+        let verdict = self.sight(key)?.verdict.as_ref()?;
+        Some(verdict.flags())
     }
 
     /// Whether a submittable element is a candidate for constraint validation; None for every other
@@ -110,33 +105,25 @@ impl Page {
     pub fn candidate(&self, key: Key) -> Option<bool>
         ensures { result ≡ candidate_of self.now key }
     {
-        match self.sight(key) {
-            Some(sight) => match &sight.verdict {
-                Some(_) => Some(sight.candidate),
-                None => None,
-            },
-            None => None,
-        }
+        let sight = self.sight(key)?;
+        sight.verdict.as_ref()?;
+        Some(sight.candidate)
     }
 
     /// The value of a submittable element or an option; None for every other key.
     pub fn value(&self, key: Key) -> Option<&str>
         ensures { option_copied result ≡ value_of self.now key }
     {
-        match self.sight(key) {
-            Some(sight) => Some(sight.value.as_str()),
-            None => None,
-        }
+        let sight = self.sight(key)?;
+        Some(sight.value.as_str())
     }
 
     /// What is seen of a submittable element or an option; None for every other key.
     pub fn view(&self, key: Key) -> Option<View<'_>>
         ensures { option_map seen_in result ≡ view_of self.now key }
     {
-        match self.sight(key) {
-            Some(sight) => Some(view_by(sight)),
-            None => None,
-        }
+        let sight = self.sight(key)?;
+        Some(view_by(sight))
     }
 
     /// The form owner of a listed element; None for every other key.
@@ -268,13 +255,7 @@ fn copy_of(files: &Vec<File>) -> Result<Vec<File>, AllocError>
 fn sight_in(sights: &[Option<Sight>], place: usize) -> Option<&Sight>
     ensures { option_copied result ≡ option_and_then (λ sight. sight) (slice_get sights.now place) }
 {
-    match sights.get(place) {
-        Some(sight) => match sight {
-            Some(sight) => Some(sight),
-            None => None,
-        },
-        None => None,
-    }
+    sights.get(place)?.as_ref()
 }
 
 fn name_of_file(files: &[File], number: u32) -> Option<&str>
@@ -283,13 +264,11 @@ fn name_of_file(files: &[File], number: u32) -> Option<&str>
     if number == 0 {
         return None;
     }
-    match files.get(number as usize - 1) {
-        Some(file) => if file.there {
-            Some(file.name.as_str())
-        } else {
-            None
-        },
-        None => None,
+    let file = files.get(number as usize - 1)?;
+    if file.there {
+        Some(file.name.as_str())
+    } else {
+        None
     }
 }
 

@@ -1,0 +1,3 @@
+mod FedLaws
+pub mod PartLaws
+pub mod Laws

@@ -7,12 +7,20 @@
 //! the definitions cite their own.
 #![tactic(auto)]
 
+mod attributes;
 mod body;
+mod direct;
 mod file;
 mod gatherer;
+mod invalid;
+mod multipart;
+mod outcome;
 mod parts;
 mod request;
+mod requests;
+mod route;
 mod sending;
+mod submission;
 
 ghost use Rattle.std.specs.Prelude.{◌≡◌, [], IfOk, string_bytes};
 ghost use Rattle.form_urlencoded.specs.Form.{append_pair};
@@ -21,9 +29,11 @@ ghost use Rattle.form_submit.specs.First.{parsed_action, request_to, first_reque
 
 use form_text::Text;
 use form_urlencoded::Serializer;
+pub use outcome::{Outcome, SubmitFault, Why};
 pub use request::{Piece, Request, SendFault};
 pub use sending::write_request;
 use std::alloc::{AllocError, Global};
+pub use submission::submit;
 use url::{ParseError, ParseResult, Url};
 
 /// What a form with one entry asks for by GET.

@@ -1,6 +1,6 @@
 -- The two marks that at most one of each group bears: checked in a radio button group, and selected
 -- in a select.
-use Rattle.std.proofs.Common.{◌≡◌, refl}
+use Rattle.std.proofs.Common.{refl}
 use Rattle.form_acts.proofs.Marks.{IsMarking}
 use Rattle.form_page.specs.Settling.{not_selected, off}
 use Rattle.form_tree.proofs.Laws.{group-sym, select-sym, share_group_map, share_select_map}

@@ -1,5 +1,5 @@
 -- What is refused and why: the first of these causes that holds.
-use Rattle.std.specs.Prelude.{ℕ, nat_lt, ◌&&◌, ◌||◌, not, Bool, true, false, List, length, Option, Some, None, codes, is_some, if◌then◌else◌}
+use Rattle.std.specs.Prelude.{◌≡◌, ◌⊎◌, ℕ, nat_lt, ◌&&◌, ◌||◌, not, Bool, true, false, List, length, Option, Some, None, codes, is_some, if◌then◌else◌}
 use Rattle.std.specs.List.{list_any}
 use Rattle.std.specs.Option.{option_map_or}
 use Rattle.std.specs.Str.{bytes_eq}
@@ -126,3 +126,7 @@ refusal_by page act (Some k) = refusal_found page act (at_key page.tree.nodes k)
 -- why the act is refused, if it is
 abbrev pub refusal_of : Page → Act → Option ActFault
 refusal_of page act = refusal_by page act (key_of act)
+
+-- a fault has its cause: no memory, or the act is refused for it
+abbrev pub IsCause : Page → Act → ActFault → Type 0
+IsCause page act fault = (fault ≡ faults.Memory) ⊎ (refusal_of page act ≡ Some fault)

@@ -4,11 +4,12 @@ use Rattle.std.specs.List.{count_by}
 use Rattle.form_types.specs.TypeTable.{names_email}
 use Rattle.form_tree.specs.declared.node.Key.{Key}
 use Rattle.form_tree.specs.declared.node.Node.{Node}
-use Rattle.form_tree.specs.Elements.{is_input}
+use Rattle.form_tree.specs.declared.node.Raw.{Raw}
+use Rattle.form_tree.specs.Elements.{is_input, is_input_tag}
 use Rattle.form_tree.specs.Ownership.{ancestors}
 use Rattle.form_tree.specs.RadioGroup.{is_checked, radio_group}
 use Rattle.form_tree.specs.Selects.{is_multiple, is_selected, options}
-use Rattle.form_tree.specs.Tree.{Nodes, IsTree, attr_in}
+use Rattle.form_tree.specs.Tree.{Nodes, IsTree, IsTreeOfRaws, attr_in, nodes_of_raws}
 use Rattle.form_page.specs.declared.file.File.{File}
 use Rattle.form_page.specs.Page.{Page}
 use Rattle.form_acts.specs.Refusals.{is_file, is_file_there, most_attributes}
@@ -65,3 +66,17 @@ pub record IsSound (page : Page) : Type 0 where
   pub elements : length page.tree.nodes ≤ most_elements
   pub depth : (k : Key) → length (ancestors page.tree.nodes k) ≤ most_depth - 1
   pub within : All (IsWithin page.files) page.tree.nodes
+
+-- ---- what opens to a sound page
+
+-- an element that is read has no more attributes than it may have, and is no input of the type email
+pub record IsAllowed (raw : Raw) : Type 0 where
+  pub attributes : length raw.attrs ≤ most_attributes
+  pub email : is_input_tag raw.tag ≡ true → names_email (attr_in raw.attrs (codes "type")) ≡ false
+
+-- The elements are a tree, no more of them and no deeper than they may be, and each is allowed.
+pub record IsOpenable (raws : List Raw) : Type 0 where
+  pub tree : IsTreeOfRaws raws
+  pub elements : length (nodes_of_raws raws) ≤ most_elements
+  pub depth : (k : Key) → length (ancestors (nodes_of_raws raws) k) ≤ most_depth - 1
+  pub allowed : All IsAllowed raws

@@ -153,7 +153,8 @@ fn is_blocking_in(page: &Page, form: Key, node: &Node) -> bool
     is_blocking(node) && is_owned_by(page, form, node)
 }
 
-fn is_owned_by(page: &Page, form: Key, node: &Node) -> bool
+/// Whether the form owns the element.
+pub fn is_owned_by(page: &Page, form: Key, node: &Node) -> bool
     ensures { result ≡ is_owned_by page.now.tree.nodes form node.now }
 {
     match page.owner(node.key) {

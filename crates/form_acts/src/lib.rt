@@ -3,14 +3,25 @@
 #![tactic(auto)]
 
 mod act;
+mod applying;
+mod attributes;
 mod clicked;
 mod clicking;
+mod counting;
+mod draft;
 mod elements;
+mod marking;
+mod options;
+mod radios;
+mod refusals;
+mod resetting;
 mod role;
-mod soundness;
+mod single;
+mod states;
+mod values;
 
 pub use act::{Act, ActFault};
+pub use applying::apply;
 pub use clicked::Clicked;
 pub use clicking::{click, implicit};
 pub use role::{Role, role_of};
-pub use soundness::keep_sound;

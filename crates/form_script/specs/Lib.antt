@@ -1,0 +1,12 @@
+pub mod Bytes
+pub mod Quoted
+pub mod Printed
+pub mod Words
+pub mod Reading
+pub mod Steps
+pub mod Gives
+pub mod Adding
+pub mod Lines
+pub mod LineReading
+pub mod Spelled
+pub mod Fitting

@@ -76,7 +76,7 @@ fn gives(alloc: Global, text: &str, want: &str) -> bool {
 }
 
 // A row as it is meant: the pictures of TAB and LF stand for these.
-fn meant(alloc: Global, row: &str) -> Result<String, AllocError> {
+pub fn meant(alloc: Global, row: &str) -> Result<String, AllocError> {
     let mut out = String::new(alloc);
     for c in row.chars() {
         out.push(match c {

@@ -55,7 +55,7 @@ spelled word n e = (bytes_eq-Decides word (decimal n)).0 e
 
 -- the word is how that number of controls is written
 abbrev pub is_written : List ℕ → ℕ → Bool
-is_written word count = nat_le 1 count && (nat_le count 5000 && bytes_eq word (decimal count))
+is_written word count = nat_le 1 count && (nat_le count most_generated && bytes_eq word (decimal count))
 
 module _ (word : List ℕ) where
   module _ (most : ℕ) (small : most < 2 ^ 32) where
@@ -73,16 +73,16 @@ module _ (word : List ℕ) where
   pub count-found : (count : ℕ) → is_written word count ≡ true → Some count ≡ generated_count word
   unfolding generated_count
   count-found count e =
-      let p = and_parts (nat_le 1 count) (nat_le count 5000 && bytes_eq word (decimal count)) e in
-      let q = and_parts (nat_le count 5000) (bytes_eq word (decimal count)) p.1 in
-      sym (found_in most_generated (lit< tt) count (leb-true 1 count p.0) (leb-true count 5000 q.0) q.1)
+      let p = and_parts (nat_le 1 count) (nat_le count most_generated && bytes_eq word (decimal count)) e in
+      let q = and_parts (nat_le count most_generated) (bytes_eq word (decimal count)) p.1 in
+      sym (found_in most_generated (lit< tt) count (leb-true 1 count p.0) (leb-true count most_generated q.0) q.1)
 
   pub count-none : {E : Type 0} (r : Result ℕ E) → ParsesUnsigned 32 10 word r → ((count : ℕ) → r ≡ Ok count → is_written word count ≡ false) → None ≡ generated_count word
   unfolding generated_count
   count-none r parses other =
       sym (not_in most_generated (lit< tt) r parses (λ count is from to here.
       let no : is_written word count ≡ false = other count is in
-      let yes : is_written word count ≡ true = simp (le-leb 1 count from, le-leb count 5000 to, here) in
+      let yes : is_written word count ≡ true = simp (le-leb 1 count from, le-leb count most_generated to, here) in
       absurd (cc)))
 
   -- a word that is a number is one of those that may be

@@ -1,6 +1,7 @@
 // What the words of a call ask for.
 ghost use Rattle.std.specs.Prelude.{◌≡◌, ◌&&◌, Err, IfOk, None, Ok, Some, bytes_eq, decimal, map, nat_le, option_map, string_bytes};
 ghost use Rattle.std.specs.Result.{result_ok};
+ghost use Rattle.form_generator.specs.Limits.{most_generated};
 ghost use Rattle.url.specs.Parser.{parse_url};
 ghost use Rattle.form_input.specs.Words.{Generated, Page, count_in, file_name, generated_count, is_generate, plain_task, task_of};
 
@@ -51,7 +52,7 @@ fn file_names(alloc: Global, paths: &[String]) -> Result<Vec<String>, AllocError
 
 // Whether the word is how that number of controls is written.
 fn is_count(word: &str, count: u32) -> bool
-    ensures { result ≡ (nat_le 1 count && (nat_le count 5000 && bytes_eq word.now (decimal count))) }
+    ensures { result ≡ (nat_le 1 count && (nat_le count most_generated && bytes_eq word.now (decimal count))) }
 {
     let mut digits = Buffer::new();
     1 <= count && count <= MOST_GENERATED && digits.format(count) == word

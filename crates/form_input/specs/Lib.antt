@@ -1,0 +1,5 @@
+pub mod Limits
+pub mod Lines
+pub mod Input
+pub mod Moved
+pub mod Words

@@ -1,5 +1,6 @@
 -- The first boundary that is free, as a relation and as a function.
-use Rattle.std.proofs.Common.{◌≡◌, ℕ, zero, suc, ◌+◌, ◌<◌, ◌≤◌, nat_lt, Bool, true, false, not, List, [], ◌∷◌, length, take, get_or, Option, Some, None, refl, sym, ap, ◌∙◌, subst, arith, length-take-le, get_or-take}
+use Rattle.std.proofs.Common.{◌≡◌, ℕ, zero, suc, ◌+◌, ◌<◌, ◌≤◌, nat_lt, Bool, true, false, not, List, [], ◌∷◌, length, take, get_or, Option, Some, None, refl, sym, ap, ◌∙◌, subst, arith}
+use Rattle.std.proofs.Common.{length-take-le, get_or-take}
 use Rattle.std.specs.Prelude.{All, slice_get, MatchOption}
 use Rattle.std.specs.List.{Any, list_any, position}
 use Rattle.std.specs.Option.{option_map}
@@ -54,7 +55,8 @@ module _ (parts : List (List ℕ)) where
     λ k d inside. absurd (omega (arith, inside)),
   )
 
-  free_later : (boundary : List ℕ) (bounds : List (List ℕ)) (answer : Option ℕ) → ¬ (IsFree parts boundary) → IsFirstFree bounds parts answer → IsFirstFree (boundary ∷ bounds) parts (option_map suc answer)
+  free_later : (boundary : List ℕ) (bounds : List (List ℕ)) (answer : Option ℕ) → ¬ (IsFree parts boundary)
+      → IsFirstFree bounds parts answer → IsFirstFree (boundary ∷ bounds) parts (option_map suc answer)
   free_later boundary bounds None taken rest = λ k d inside. each k d inside
     where
       each : (k : ℕ) (d : List ℕ) → k < suc (length bounds) → ¬ (IsFree parts (get_or (boundary ∷ bounds) k d))

@@ -1,5 +1,6 @@
 -- The options of a select stand among the elements directly behind it.
-use Rattle.std.proofs.Common.{add-one, ◌≡◌, ℕ, zero, suc, ◌+◌, ◌<◌, ◌≤◌, Bool, true, false, ◌&&◌, cond, List, [], ◌∷◌, ◌++◌, length, map, drop, take, get_or, Option, Some, None, IfSome, ◌⊎◌, inl, inr, refl, sym, ap, ◌∙◌, subst, arith, leb, length-drop}
+use Rattle.std.proofs.Common.{add-one, ◌≡◌, ℕ, zero, suc, ◌+◌, ◌<◌, ◌≤◌, Bool, true, false, ◌&&◌, cond, List, [], ◌∷◌, ◌++◌, length, map, drop, take, get_or, Option, Some, None, IfSome}
+use Rattle.std.proofs.Common.{◌⊎◌, inl, inr, refl, sym, ap, ◌∙◌, subst, arith, leb, length-drop}
 use Rattle.std.specs.List.{All, filter, flat_map, slice_get}
 use Rattle.std.specs.Option.{option_and_then, option_map, option_map_or}
 use Rattle.std.proofs.lemmas.Bool.{cases_lt}
@@ -63,7 +64,9 @@ module _ (ns : Nodes) (tree : IsTree ns) where
       up None = refl
       up (Some k) = place_in_shape ns k
 
-      go : (o : Option Node) → option_map (λ (entry : Key × Option Key). option_and_then (place_in (shape_of ns)) entry.1) (option_map (λ (n : Node). (n.key, n.parent)) o) ≡ option_map (λ (n : Node). option_and_then (place_of ns) n.parent) o
+      go : (o : Option Node)
+          → option_map (λ (entry : Key × Option Key). option_and_then (place_in (shape_of ns)) entry.1)
+          (option_map (λ (n : Node). (n.key, n.parent)) o) ≡ option_map (λ (n : Node). option_and_then (place_of ns) n.parent) o
       go None = refl
       go (Some n) = ap (λ (q : Option ℕ). Some q) (up n.parent)
 
@@ -112,7 +115,10 @@ module _ (ns : Nodes) (tree : IsTree ns) where
           at_top true h = same t h
           at_top false h = absurd (cc)
 
-      above : (u : Key) (a b : Bool) → option_map_or (same_key s) (cond a (Some u) (cond b (option_and_then (λ top. cond (passes is_select ns top) (Some top) None) (parent_of ns u)) None)) false ≡ true → (Some u ≡ Some s) ⊎ (parent_of ns u ≡ Some s)
+      above : (u : Key) (a b : Bool)
+          → option_map_or (same_key s) (cond a (Some u)
+          (cond b (option_and_then (λ top. cond (passes is_select ns top) (Some top) None) (parent_of ns u)) None)) false ≡ true
+          → (Some u ≡ Some s) ⊎ (parent_of ns u ≡ Some s)
       above u true b h = inl (same u h)
       above u false true h = inr (if_top (parent_of ns u) h)
       above u false false h = absurd (cc)
@@ -178,7 +184,8 @@ module _ (ns : Nodes) (tree : IsTree ns) where
               let there : parent_place ns (i + 1 + k) ≡ None = ap (option_and_then (λ (n : Node). option_and_then (place_of ns) n.parent)) (sym (get-drop ns (i + 1) k) ∙ e) in
               none-some inside.0 (sym there ∙ inside.2)
           go (Some x) e h =
-              let there : option_and_then (place_of ns) x.parent ≡ Some inside.0 = sym (ap (option_and_then (λ (n : Node). option_and_then (place_of ns) n.parent)) (sym (get-drop ns (i + 1) k) ∙ e)) ∙ inside.2 in
+              let there : option_and_then (place_of ns) x.parent ≡ Some inside.0 =
+              sym (ap (option_and_then (λ (n : Node). option_and_then (place_of ns) n.parent)) (sym (get-drop ns (i + 1) k) ∙ e)) ∙ inside.2 in
               contradiction inside.0 inside.1 (rw there at h)
             where
               contradiction : (r : ℕ) → i ≤ r → leb i r ≡ false → ⊥

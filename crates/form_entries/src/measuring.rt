@@ -4,7 +4,8 @@ ghost use Rattle.std.specs.List.{flat_map};
 ghost use Rattle.form_tree.specs.Tree.{at_key};
 ghost use Rattle.form_page.specs.Page.{name_of_file};
 ghost use Rattle.form_entries.specs.Below.{coordinate_length, entry_by, measured};
-ghost use Rattle.form_entries.specs.EntryList.{capped, coordinate_entries, coordinate_name, entries_by, entries_length, entries_of, entry_list, entry_length, file_entries, file_entry, name_in, option_entries, text_entry, value_text};
+ghost use Rattle.form_entries.specs.EntryList.{capped, coordinate_entries, coordinate_name, entries_by, entries_length, entries_of, entry_list, entry_length, file_entries, file_entry};
+ghost use Rattle.form_entries.specs.EntryList.{name_in, option_entries, text_entry, value_text};
 
 use crate::below::{elements_with_options, is_sent_by};
 use crate::controls::name_in;

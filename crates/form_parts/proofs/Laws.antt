@@ -1,2 +1,2 @@
--- The laws for the crates above.
-pub use Rattle.form_parts.proofs.PartLaws.{HasParts-read, part_told}
+-- The law for the crates above.
+pub use Rattle.form_parts.proofs.PartLaws.{part_told}

@@ -1,5 +1,6 @@
 -- The parts of several entries.
-use Rattle.std.proofs.Common.{◌≡◌, ℕ, suc, ◌+◌, ◌-◌, ◌<◌, ◌≤◌, Bool, true, false, not, ◌||◌, List, [], ◌∷◌, ◌++◌, length, map, take, drop, get_or, Some, None, IfSome, refl, sym, ap, subst, ◌∙◌, arith, append_assoc, append-nil, take-append-drop}
+use Rattle.std.proofs.Common.{◌≡◌, ℕ, suc, ◌+◌, ◌-◌, ◌<◌, ◌≤◌, Bool, true, false, not, ◌||◌, List, [], ◌∷◌, ◌++◌, length, map, take, drop, get_or, Some, None, IfSome, refl, sym, ap}
+use Rattle.std.proofs.Common.{subst, ◌∙◌, arith, append_assoc, append-nil, take-append-drop}
 use Rattle.std.specs.Prelude.{Option, option_map, All, Contains, flat_map, sum}
 use Rattle.std.specs.List.{AllZip, zip, list_any, position}
 use Rattle.std.proofs.Common.{cond}
@@ -9,7 +10,7 @@ use Rattle.std.proofs.lemmas.List.Folds.{list_any-append}
 use Rattle.std.proofs.lemmas.Grind.{flat_map-append}
 use Rattle.std.proofs.lemmas.Slice.Zip.{all_zipped_more, AllZip-long}
 use Rattle.form_text.proofs.Laws.{position-cons}
-use Rattle.form_ports.specs.Shelf.{contents_of, numbers_of, at_number, IsThere, told, HasTold, HasRead, LastSizes, NoneFell, SomeRose, total}
+use Rattle.form_ports.specs.Shelf.{contents_of, numbers_of, at_number, IsThere, told, HasTold, LastSizes, NoneFell, SomeRose, total}
 use Rattle.form_ports.proofs.Laws.{AllZip-append, FileRose-later, LastSizes-append, LastSizes-none, LastSizes-one, sum-append}
 use Rattle.form_encode.specs.Boundaries.{first_free, has_delimiter, is_taken}
 use Rattle.form_encode.proofs.FreeLaws.{Occurs-from}
@@ -18,7 +19,8 @@ use Rattle.form_encode.specs.declared.entry.Entry.{Entry}
 use Rattle.form_encode.specs.declared.entry.Given.{Given}
 use Rattle.form_encode.specs.declared.entry.Given.TheVariants.{Text, File}
 use Rattle.form_parts.specs.declared.parts.Parts.{Parts}
-use Rattle.form_parts.specs.Parts.{FedEntries, FedPart, FedParts, FileLonger, HasParts, IsGivenPart, IsPart, StopsPast, file_number, file_numbers, file_part, file_parts, file_size, given_file, given_number}
+use Rattle.form_parts.specs.Parts.{FedEntries, FedPart, FedParts, FileLonger, HasParts, IsGivenPart, IsPart, StopsPast, file_number, file_numbers, file_part, file_parts, file_size}
+use Rattle.form_parts.specs.Parts.{given_file, given_number}
 use Rattle.form_parts.proofs.FedLaws.{FedParts-more, FedParts-none}
 
 -- ---- lists of numbers and of parts
@@ -256,16 +258,6 @@ part_told contents (e ∷ entries) (p ∷ parts) each =
     one (Text text) part is = tt
     one (File None name) part is = tt
     one (File (Some number) name) part is = (is, tt)
-
--- the files were read
-pub HasParts-read : (contents : List (Option (Option (List ℕ)))) (positions : List (Option ℕ)) (entries : List Entry)
-    (bounds : List (List ℕ))
-    (most : ℕ) (answer : Parts) (has : HasParts contents positions entries bounds most answer)
-    → HasRead contents positions (file_numbers entries) (file_parts entries has.parts)
-HasParts-read contents positions entries bounds most answer has = record {
-  bytes = part_told contents entries has.parts has.each;
-  last = has.last;
-}
 
 sizes-within : (contents : List (Option (Option (List ℕ)))) (numbers : List ℕ) (files : List (List ℕ))
     → AllZip (λ number bytes. HasTold (told contents number) bytes) numbers files

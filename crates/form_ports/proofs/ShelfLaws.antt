@@ -1,14 +1,13 @@
 -- A shelf whose file of one number was read.
-use Rattle.std.proofs.Common.{Vec, Global, ◌≡◌, ◌≢◌, ℕ, zero, suc, ◌+◌, ◌-◌, ◌<◌, ◌≤◌, List, [], ◌∷◌, length, get_or, set, Some, None, Ok, Err, refl, sym, ap, subst, ◌∙◌, arith, IfSome, ◌++◌, append_assoc, append-nil}
-use Rattle.std.specs.Prelude.{Result, IfOk, OnOk, Option, option_map, slice_get, map, Contains, take, drop, sum}
+use Rattle.std.proofs.Common.{◌≡◌, ◌≢◌, ℕ, zero, suc, ◌+◌, ◌-◌, ◌<◌, ◌≤◌, List, [], ◌∷◌, length, get_or, set, Some, None, Ok, Err, refl, sym, ap, subst, ◌∙◌, arith, ◌++◌, append_assoc, append-nil}
+use Rattle.std.specs.Prelude.{Result, IfOk, OnOk, Option, option_map, slice_get, map, Contains, sum}
 use Rattle.std.specs.List.{AllZip}
-use Rattle.std.proofs.lemmas.List.{take_more, take-append-drop, map-set, map_push}
-use Rattle.std.proofs.lemmas.List.Elements.{Contains-push, Contains-append_left, Contains-append_right, Contains-get_or}
-use Rattle.std.proofs.lemmas.Slice.Zip.{all_zipped_more}
+use Rattle.std.proofs.lemmas.List.{map-set}
+use Rattle.std.proofs.lemmas.List.Elements.{Contains-append_left, Contains-append_right, Contains-get_or}
 use Rattle.std.proofs.Math.Seq.{map-set_same}
 use Rattle.std.proofs.lemmas.List.Sums.{fold-append}
 use Rattle.form_ports.specs.Ports.{Rose}
-use Rattle.form_ports.specs.Shelf.{contents_of, numbers_of, at_number, IsFile, IsThere, told, told_in, NoneFell, FileRose, SomeRose, EachLater, HasTold, EachLast, LastSizes, HasRead, Passes, total}
+use Rattle.form_ports.specs.Shelf.{contents_of, numbers_of, at_number, IsFile, IsThere, told, told_in, NoneFell, FileRose, EachLater, EachLast, LastSizes}
 
 -- ---- places and numbers
 
@@ -232,15 +231,6 @@ FileRose-later first old new n later rose =
       rose = omega (arith, was.2, rose.rose);
     }
 
--- the count of the next file rose
-pub SomeRose-turn : (first old new : List (Option ℕ)) (numbers : List ℕ) (i : ℕ) → i < length numbers → NoneFell first old
-    → FileRose (get_or numbers i 0) old new → SomeRose numbers first new
-SomeRose-turn first old new numbers i h later rose = record {
-  number = get_or numbers i 0;
-  named = Contains-get_or numbers i 0 h;
-  file = FileRose-later first old new (get_or numbers i 0) later rose;
-}
-
 -- one error, in another result
 pub Err-again : {X Y E : Type 0} (x y : E) → (let r : Result X E = Err x in r ≡ Err y) → (let r : Result Y E = Err x in r ≡ Err y)
 Err-again {X} {Y} {E} x y same = ap again same
@@ -303,41 +293,6 @@ pub other-one : (n k : ℕ) → ¬ (Contains (n ∷ []) k) → k ≢ n
 other-one n k apart e =
     apart (let P : ℕ → Type 0 = λ m. Contains (n ∷ []) m in subst P (sym e) (Contains-get_or (n ∷ []) 0 n (omega arith)))
 
--- one more file was read
-pub LastSizes-push : {B : Type 0} (position : B → ℕ) (old new : List (Option B)) (numbers sizes : List ℕ) (n size : ℕ)
-    → LastSizes (numbers_of position old) numbers sizes
-    → ((k : ℕ) → k ≢ n → at_number new k ≡ at_number old k)
-    → at_number (numbers_of position new) n ≡ Some (Some size)
-    → LastSizes (numbers_of position new) (numbers ++ n ∷ []) (sizes ++ size ∷ [])
-LastSizes-push position old new numbers sizes n size so_far others here =
-    LastSizes-append position old new numbers sizes (n ∷ []) (size ∷ []) so_far
-    (λ k apart. others k (other-one n k apart)) (LastSizes-one (numbers_of position new) n size here)
-
--- nothing was read yet
-pub HasRead-none : (contents : List (Option (Option (List ℕ)))) (positions : List (Option ℕ)) → HasRead contents positions [] []
-HasRead-none contents positions = record { bytes = tt; last = LastSizes-none positions }
-
--- one more file was read
-pub HasRead-turn : {B : Type 0} (content : B → Option (List ℕ)) (position : B → ℕ) (first old new : List (Option B))
-    (numbers : List ℕ) (i : ℕ) (files : List (Vec ℕ Global)) (bytes : Vec ℕ Global) {grown : List (Vec ℕ Global)}
-    → grown ≡ files ++ bytes ∷ [] → i < length numbers
-    → HasRead (contents_of content first) (numbers_of position old) (take i numbers) (map (λ file. file.items) files)
-    → contents_of content old ≡ contents_of content first
-    → ((k : ℕ) → k ≢ get_or numbers i 0 → at_number new k ≡ at_number old k)
-    → HasTold (told (contents_of content old) (get_or numbers i 0)) bytes.items
-    → at_number (numbers_of position new) (get_or numbers i 0) ≡ Some (Some (length bytes.items))
-    → HasRead (contents_of content first) (numbers_of position new) (take (i + 1) numbers) (map (λ file. file.items) grown)
-HasRead-turn content position first old new numbers i files bytes grows h so_far same others here stands =
-    let n = get_or numbers i 0 in
-    let is : HasTold (told (contents_of content first) n) bytes.items =
-    let P : List (Option (Option (List ℕ))) → Type 0 = λ cs. HasTold (told cs n) bytes.items in subst P same here in
-    simp (take_more numbers i 0 h, grows, map_push) (record {
-      bytes = all_zipped_more (λ number bytes. HasTold (told (contents_of content first) number) bytes) (take i numbers)
-          (map (λ file. file.items) files) n bytes.items so_far.bytes is;
-      last = simp map_push (LastSizes-push position old new (take i numbers)
-          (map (λ bytes. length bytes) (map (λ file. file.items) files)) n (length bytes.items) so_far.last others stands);
-    })
-
 sum-push : (sizes : List ℕ) (size : ℕ) → sum (sizes ++ size ∷ []) ≡ sum sizes + size
 sum-push sizes size = fold-append (λ a b. a + b) 0 sizes (size ∷ [])
 
@@ -350,83 +305,3 @@ sum-append xs (y ∷ ys) =
     let first = sum-append (y ∷ []) ys in
     let one : sum (y ∷ []) ≡ 0 + y = refl in
     rw split (omega (arith, rest, grown, first, one))
-
--- what is told has these sizes
-sizes-within : (contents : List (Option (Option (List ℕ)))) (numbers : List ℕ) (files : List (List ℕ))
-    → AllZip (λ number bytes. HasTold (told contents number) bytes) numbers files
-    → AllZip (λ number size. IfSome (told contents number) (λ all. size ≤ length all)) numbers (map (λ bytes. length bytes) files)
-sizes-within contents [] [] so_far = tt
-sizes-within contents [] (b ∷ files) so_far = absurd so_far
-sizes-within contents (n ∷ numbers) [] so_far = absurd so_far
-sizes-within contents (n ∷ numbers) (b ∷ files) so_far =
-    (within (told contents n) b so_far.0, sizes-within contents numbers files so_far.1)
-  where
-    within : (content : Option (List ℕ)) (bytes : List ℕ) → HasTold content bytes → IfSome content (λ all. length bytes ≤ length all)
-    within None bytes h = tt
-    within (Some all) bytes h = omega (arith, ap (λ b. length b) h)
-
--- the file that passes the limit
-pub Passes-turn : {B : Type 0} (content : B → Option (List ℕ)) (position : B → ℕ) (first old new : List (Option B))
-    (numbers : List ℕ) (i left most : ℕ) (files : List (List ℕ)) → i < length numbers
-    → HasRead (contents_of content first) (numbers_of position old) (take i numbers) files
-    → left + total files ≡ most
-    → contents_of content old ≡ contents_of content first
-    → ((k : ℕ) → k ≢ get_or numbers i 0 → at_number new k ≡ at_number old k)
-    → IfSome (told (contents_of content old) (get_or numbers i 0)) (λ all. left < length all)
-    → at_number (numbers_of position new) (get_or numbers i 0) ≡ Some (Some (left + 1))
-    → Passes (contents_of content first) (numbers_of position new) numbers most
-unfolding total
-Passes-turn content position first old new numbers i left most files h so_far spent same others longer stands =
-    let n = get_or numbers i 0 in
-    let sizes = map (λ bytes. length bytes) files in
-    let is : IfSome (told (contents_of content first) n) (λ all. left < length all) =
-    let P : List (Option (Option (List ℕ))) → Type 0 = λ cs. IfSome (told cs n) (λ all. left < length all) in subst P same longer in
-    record {
-      front = take i numbers ++ n ∷ [];
-      rest = drop (i + 1) numbers;
-      sizes = sizes ++ (left + 1) ∷ [];
-      is_front = sym (take-append-drop (i + 1) numbers) ∙ ap (λ f. f ++ drop (i + 1) numbers) (take_more numbers i 0 h);
-      within = all_zipped_more (λ number size. IfSome (told (contents_of content first) number) (λ all. size ≤ length all))
-          (take i numbers) sizes n (left + 1) (sizes-within (contents_of content first) (take i numbers) files so_far.bytes)
-          (one_more left (told (contents_of content first) n) is);
-      last = LastSizes-push position old new (take i numbers) sizes n (left + 1) so_far.last others stands;
-      past = let e = sum-push sizes (left + 1) in omega (arith, e, spent);
-    }
-  where
-    one_more : (left : ℕ) (content : Option (List ℕ)) → IfSome content (λ all. left < length all) → IfSome content (λ all. left + 1 ≤ length all)
-    one_more left None h = tt
-    one_more left (Some all) h = omega (arith, h)
-
--- no file has no byte
-pub total-none : (most : ℕ) → most + total [] ≡ most
-unfolding total
-total-none most = let e : sum [] ≡ 0 = refl in omega (arith, e)
-
--- one more file, in the count of bytes
-pub total-turn : (files : List (Vec ℕ Global)) (bytes : Vec ℕ Global) {grown : List (Vec ℕ Global)} → grown ≡ files ++ bytes ∷ []
-    → total (map (λ file. file.items) grown) ≡ total (map (λ file. file.items) files) + length bytes.items
-unfolding total
-total-turn files bytes grows =
-    let e = sum-push (map (λ bytes. length bytes) (map (λ file. file.items) files)) (length bytes.items) in
-    simp (grows, map_push) (omega (arith, e))
-
--- what no number so far names stays
-pub others-more : {X : Type 0} (numbers : List ℕ) (i : ℕ) (old mid new : List X) → i < length numbers
-    → ((k : ℕ) → ¬ (Contains (take i numbers) k) → at_number mid k ≡ at_number old k)
-    → ((k : ℕ) → k ≢ get_or numbers i 0 → at_number new k ≡ at_number mid k)
-    → (k : ℕ) → ¬ (Contains (take (i + 1) numbers) k) → at_number new k ≡ at_number old k
-others-more numbers i old mid new h so_far here k not_named =
-    let grown = take_more numbers i 0 h in
-    let P : List ℕ → Type 0 = λ ps. ¬ (Contains ps k) in
-    let apart : P (take i numbers ++ get_or numbers i 0 ∷ []) = subst P grown not_named in
-    let other : k ≢ get_or numbers i 0 = λ e. let Q : ℕ → Type 0 = λ x. Contains (take i numbers ++ x ∷ []) k in
-    apart (subst Q e (Contains-push (take i numbers) k)) in
-    here k other ∙ so_far k (λ named. apart (Contains-append_left (take i numbers) (get_or numbers i 0 ∷ []) k named))
-
--- the same, of all numbers
-pub others-all : {X : Type 0} (numbers : List ℕ) (i : ℕ) (old new : List X)
-    → ((k : ℕ) → ¬ (Contains (take i numbers) k) → at_number new k ≡ at_number old k)
-    → (k : ℕ) → ¬ (Contains numbers k) → at_number new k ≡ at_number old k
-others-all numbers i old new so_far k not_named =
-    so_far k (λ named. not_named (let P : List ℕ → Type 0 = λ ps. Contains ps k in
-    subst P (take-append-drop i numbers) (Contains-append_left (take i numbers) (drop i numbers) k named)))

@@ -86,12 +86,6 @@ pub record LastSizes (positions : List (Option ℕ)) (numbers sizes : List ℕ) 
 unfoldable pub total : List (List ℕ) → ℕ
 total files = sum (map (λ bytes. length bytes) files)
 
--- these files were read: their bytes are those that they tell, and each stands where its last reading ended
-pub record HasRead (contents : List (Option (Option (List ℕ)))) (positions : List (Option ℕ)) (numbers : List ℕ)
-    (files : List (List ℕ)) : Type 0 where
-  pub bytes : AllZip (λ number bytes. HasTold (told contents number) bytes) numbers files
-  pub last : LastSizes positions numbers (map (λ bytes. length bytes) files)
-
 -- the first of these files have more bytes than may be: such sizes are none above those that are told, and each file
 -- stands where its last reading ended
 pub record Passes (contents : List (Option (Option (List ℕ)))) (positions : List (Option ℕ)) (numbers : List ℕ)

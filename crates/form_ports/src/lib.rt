@@ -17,7 +17,6 @@ mod memory_blob;
 mod ports;
 mod reading;
 mod real;
-mod shelf;
 mod shift_blob;
 #[cfg(test)]
 mod tests;
@@ -27,8 +26,7 @@ pub use lazy_file::LazyFile;
 pub use memory::{MemSink, MemSource};
 pub use memory_blob::MemBlob;
 pub use ports::{Blob, Got, Rewound, Sink, Source, Took};
-pub use reading::{BlobStop, read_blob, read_front, rewind};
+pub use reading::{read_front, rewind};
 pub use real::{StdSink, StdSource};
-pub use shelf::{read_file, read_files};
 pub use shift_blob::ShiftBlob;
 pub use writing::{WriteFault, write_all};

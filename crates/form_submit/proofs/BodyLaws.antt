@@ -3,48 +3,48 @@ use Rattle.std.proofs.Common.{◌≡◌, ℕ, zero, suc, ◌*◌, ◌<◌, ◌�
 use Rattle.std.proofs.lemmas.List.{take_all, length-take-le, length-drop}
 use Rattle.std.proofs.Math.Seq.{take-append_seam, drop-append_seam}
 use Rattle.std.specs.Int.{div_ceil}
-use Rattle.form_submit.specs.PrintedRequest.{pieces_of, data_lines, printed_data}
+use Rattle.form_submit.specs.PrintedRequest.{data_lines, piece_size, pieces_of, printed_data}
 
 pub printed_data-none : printed_data [] ≡ []
 unfolding printed_data pieces_of
 printed_data-none = refl
 
 -- fewer bytes than two pieces are one piece
-pieces_of-one : (bytes : List ℕ) → 0 < length bytes → length bytes ≤ 1024 → pieces_of bytes ≡ bytes ∷ []
+pieces_of-one : (bytes : List ℕ) → 0 < length bytes → length bytes ≤ piece_size → pieces_of bytes ≡ bytes ∷ []
 unfolding pieces_of
 pieces_of-one bytes some fits =
-    let count : div_ceil (length bytes) 1024 ≡ 1 = omega (arith, some, fits) in
-    rw count (ap (λ b. b ∷ []) (take_all 1024 bytes fits))
+    let count : div_ceil (length bytes) piece_size ≡ 1 = omega (arith, some, fits) in
+    rw count (ap (λ b. b ∷ []) (take_all piece_size bytes fits))
 
-pub printed_data-one : (bytes : List ℕ) → 0 < length bytes → length bytes ≤ 1024 → printed_data bytes ≡ data_lines bytes
+pub printed_data-one : (bytes : List ℕ) → 0 < length bytes → length bytes ≤ piece_size → printed_data bytes ≡ data_lines bytes
 unfolding printed_data
 printed_data-one bytes some fits = rw (pieces_of-one bytes some fits) (append-nil (data_lines bytes))
 
 -- a whole piece at the front is the first
-pieces_of-whole : (front more : List ℕ) → length front ≡ 1024 → pieces_of (front ++ more) ≡ front ∷ pieces_of more
+pieces_of-whole : (front more : List ℕ) → length front ≡ piece_size → pieces_of (front ++ more) ≡ front ∷ pieces_of more
 unfolding pieces_of
 pieces_of-whole front more size =
-    let count : div_ceil (length (front ++ more)) 1024 ≡ suc (div_ceil (length more) 1024) =
+    let count : div_ceil (length (front ++ more)) piece_size ≡ suc (div_ceil (length more) piece_size) =
     omega (arith, size, length-append front more) in
-    let first : take 1024 (front ++ more) ≡ front = let P : ℕ → Type 0 = λ n. take n (front ++ more) ≡ front in subst P size (take-append_seam front more) in
-    let rest : drop 1024 (front ++ more) ≡ more = let P : ℕ → Type 0 = λ n. drop n (front ++ more) ≡ more in subst P size (drop-append_seam front more) in
+    let first : take piece_size (front ++ more) ≡ front = let P : ℕ → Type 0 = λ n. take n (front ++ more) ≡ front in subst P size (take-append_seam front more) in
+    let rest : drop piece_size (front ++ more) ≡ more = let P : ℕ → Type 0 = λ n. drop n (front ++ more) ≡ more in subst P size (drop-append_seam front more) in
     rw (count, first, rest) refl
 
-printed_data-whole : (front more : List ℕ) → length front ≡ 1024 → printed_data (front ++ more) ≡ data_lines front ++ printed_data more
+printed_data-whole : (front more : List ℕ) → length front ≡ piece_size → printed_data (front ++ more) ≡ data_lines front ++ printed_data more
 unfolding printed_data
 printed_data-whole front more size = rw (pieces_of-whole front more size) refl
 
 -- whole pieces are printed, and then the rest
-pub printed_data-append : (pieces : ℕ) (printed more : List ℕ) → length printed ≡ pieces * 1024
+pub printed_data-append : (pieces : ℕ) (printed more : List ℕ) → length printed ≡ pieces * piece_size
     → printed_data (printed ++ more) ≡ printed_data printed ++ printed_data more
 printed_data-append zero [] more size = ap (λ d. d ++ printed_data more) (sym printed_data-none)
 printed_data-append zero (b ∷ printed) more size = absurd (omega (arith, size))
 printed_data-append (suc pieces) printed more size =
-    let front = take 1024 printed in
-    let back = drop 1024 printed in
-    let split : printed ≡ front ++ back = sym (take-append-drop 1024 printed) in
-    let first : length front ≡ 1024 = length-take-le 1024 printed (omega (arith, size)) in
-    let others : length back ≡ pieces * 1024 = omega (arith, size, length-drop 1024 printed) in
+    let front = take piece_size printed in
+    let back = drop piece_size printed in
+    let split : printed ≡ front ++ back = sym (take-append-drop piece_size printed) in
+    let first : length front ≡ piece_size = length-take-le piece_size printed (omega (arith, size)) in
+    let others : length back ≡ pieces * piece_size = omega (arith, size, length-drop piece_size printed) in
     ap (λ p. printed_data (p ++ more)) split ∙ ap printed_data (append_assoc front back more)
     ∙ printed_data-whole front (back ++ more) first
     ∙ ap (λ d. data_lines front ++ d) (printed_data-append pieces back more others)

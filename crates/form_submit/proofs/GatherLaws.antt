@@ -1,11 +1,12 @@
 -- Bytes that are gathered in several calls.
-use Rattle.std.proofs.Common.{◌≡◌, ℕ, ◌+◌, ◌<◌, ◌≤◌, List, [], ◌∷◌, ◌++◌, length, refl, sym, ap, subst, ◌∙◌, arith, append_assoc, append-nil, length-append, codes, flat_map, take, drop, take-append-drop, get_or, Bor, eqb, true, false}
+use Rattle.std.proofs.Common.{◌≡◌, ℕ, ◌+◌, ◌<◌, ◌≤◌, List, [], ◌∷◌, ◌++◌, length, refl, sym, ap, subst, ◌∙◌, arith, append_assoc, append-nil, length-append, codes, flat_map, take, drop}
+use Rattle.std.proofs.Common.{take-append-drop, get_or, Bor, eqb, true, false}
 use Rattle.std.specs.Prelude.{Option}
 use Rattle.std.proofs.lemmas.List.{drop_more}
 use Rattle.std.specs.Io.KnownBytes.{append_known}
 use Rattle.form_ports.specs.Written.{WrotePart}
 use Rattle.form_ports.proofs.Laws.{append_known-nil, append_known-append, WrotePart-front, WrotePart-later}
-use Rattle.form_submit.specs.PrintedRequest.{data_lines, printed_data, printed_body}
+use Rattle.form_submit.specs.PrintedRequest.{data_lines, piece_size, printed_data, printed_body}
 use Rattle.form_submit.specs.Sending.{Gathers, GathersPart}
 use Rattle.form_submit.proofs.BodyLaws.{printed_data-none, printed_data-one, printed_data-append}
 use Rattle.std.proofs.Math.Seq.{take-add}
@@ -34,7 +35,7 @@ Gathers-none written kept =
     let P : List ℕ → Type 0 = Gathers written written kept [] in subst P (append-nil kept) (Gathers-kept written kept [])
 
 -- what is kept is a whole piece, and is printed
-pub Gathers-piece : (written now : Option (List ℕ)) (kept : List ℕ) → length kept ≡ 1024 → now ≡ append_known written (data_lines kept)
+pub Gathers-piece : (written now : Option (List ℕ)) (kept : List ℕ) → length kept ≡ piece_size → now ≡ append_known written (data_lines kept)
     → Gathers written now kept [] []
 Gathers-piece written now kept size here = record {
   printed = kept;
@@ -45,7 +46,7 @@ Gathers-piece written now kept size here = record {
 }
 
 -- a part of that piece
-pub GathersPart-piece : (written now : Option (List ℕ)) (kept : List ℕ) → length kept ≡ 1024 → WrotePart written now (data_lines kept)
+pub GathersPart-piece : (written now : Option (List ℕ)) (kept : List ℕ) → length kept ≡ piece_size → WrotePart written now (data_lines kept)
     → GathersPart written now kept []
 GathersPart-piece written now kept size here = record {
   printed = kept;
@@ -159,10 +160,10 @@ printed_data-empty written [] none = append_known-nil written ∙ ap (append_kno
 printed_data-empty written (b ∷ rest) none = absurd (grind (arith, none))
 
 -- what is left and no whole piece is the last piece
-pub printed_data-last : (bytes rest : List ℕ) → bytes ≡ rest → eqb (length bytes) 0 ≡ false → length rest < 1024 → data_lines bytes ≡ printed_data rest
+pub printed_data-last : (bytes rest : List ℕ) → bytes ≡ rest → eqb (length bytes) 0 ≡ false → length rest < piece_size → data_lines bytes ≡ printed_data rest
 printed_data-last [] rest same some fits = cc
 printed_data-last (b ∷ bytes) rest same some fits =
-    let size : length (b ∷ bytes) ≤ 1024 = omega (arith, ap (λ l. length l) same, fits) in
+    let size : length (b ∷ bytes) ≤ piece_size = omega (arith, ap (λ l. length l) same, fits) in
     sym (printed_data-one (b ∷ bytes) (omega arith) size) ∙ ap printed_data same
 
 -- a body whose whole pieces were printed

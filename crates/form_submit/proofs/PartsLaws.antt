@@ -1,5 +1,6 @@
 -- The parts of a multipart body, and the outcome that they lead to.
-use Rattle.std.proofs.Common.{◌≡◌, ℕ, zero, suc, ◌+◌, ◌-◌, ◌^◌, ◌<◌, ◌≤◌, Bool, true, false, cond, List, [], ◌∷◌, ◌++◌, length, map, replicate, Option, Some, None, IfSome, refl, sym, ap, subst, ◌∙◌, inl, inr, arith, append-nil}
+use Rattle.std.proofs.Common.{◌≡◌, ℕ, zero, suc, ◌+◌, ◌-◌, ◌^◌, ◌<◌, ◌≤◌, Bool, true, false, cond, List, [], ◌∷◌, ◌++◌, length, map, replicate, Option, Some, None, IfSome, refl, sym, ap}
+use Rattle.std.proofs.Common.{subst, ◌∙◌, inl, inr, arith, append-nil}
 use Rattle.std.specs.Prelude.{All, Contains, nat_lt, flat_map, sum}
 use Rattle.std.specs.List.{AllZip, zip}
 use Rattle.std.specs.Option.{option_and_then}
@@ -32,7 +33,8 @@ use Rattle.form_submit.specs.declared.route.Route.{Route}
 use Rattle.form_submit.specs.declared.route.Route.TheVariants as routes
 use Rattle.form_submit.specs.declared.route.Way.{Way}
 use Rattle.form_submit.specs.declared.route.Way.TheVariants as ways
-use Rattle.form_submit.specs.Outcome.{IfLong, IfRequest, IsOutcomeBy, files_read, IsTooLong, chosen, direct_outcome, listed_request, multipart_outcome, multipart_pieces, part_pieces, parts_pieces, unless_long, value_piece}
+use Rattle.form_submit.specs.Outcome.{IfLong, IfRequest, IsOutcomeBy, files_read, IsTooLong, chosen, direct_outcome, listed_request, multipart_outcome, multipart_pieces, part_pieces}
+use Rattle.form_submit.specs.Outcome.{parts_pieces, unless_long, value_piece}
 use Rattle.form_submit.specs.PrintedRequest.{IsReady, IsSendable, file_number, file_numbers, file_size, file_sizes}
 
 abbrev Contents : Type 0

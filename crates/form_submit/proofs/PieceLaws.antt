@@ -1,5 +1,6 @@
 -- The pieces of a multipart body, and the files that they name.
-use Rattle.std.proofs.Common.{◌≡◌, ℕ, zero, suc, ◌+◌, ◌-◌, ◌^◌, ◌<◌, ◌≤◌, Bool, true, false, cond, List, [], ◌∷◌, ◌++◌, length, map, Option, Some, None, IfSome, refl, sym, ap, subst, ◌∙◌, arith, append-nil}
+use Rattle.std.proofs.Common.{◌≡◌, ℕ, zero, suc, ◌+◌, ◌-◌, ◌^◌, ◌<◌, ◌≤◌, Bool, true, false, cond, List, [], ◌∷◌, ◌++◌, length, map, Option, Some, None, IfSome, refl, sym, ap, subst, ◌∙◌}
+use Rattle.std.proofs.Common.{arith, append-nil}
 use Rattle.std.specs.Prelude.{All, IsSome, nat_lt, flat_map, sum}
 use Rattle.std.specs.List.{AllZip, zip}
 use Rattle.std.proofs.lemmas.List.Elements.{All-append, All-cons, All-head, All-nil, All-tail}
@@ -26,7 +27,8 @@ use Rattle.form_submit.specs.declared.route.Direct.{Direct}
 use Rattle.form_submit.specs.declared.route.Direct.TheVariants as directs
 use Rattle.form_submit.specs.declared.route.Way.{Way}
 use Rattle.form_submit.specs.declared.route.Way.TheVariants as ways
-use Rattle.form_submit.specs.Outcome.{IfRequest, action_request, body_request, direct_outcome, listed_request, multipart_kind, multipart_outcome, multipart_pieces, part_pieces, parts_pieces, value_piece}
+use Rattle.form_submit.specs.Outcome.{IfRequest, action_request, body_request, direct_outcome, listed_request, multipart_kind, multipart_outcome, multipart_pieces, part_pieces}
+use Rattle.form_submit.specs.Outcome.{parts_pieces, value_piece}
 use Rattle.form_submit.specs.PrintedRequest.{IsReady, IsSendable, file_number, file_numbers, file_size, file_sizes}
 
 abbrev Contents : Type 0
@@ -190,8 +192,20 @@ IsHeld request = (request.post ≡ true → IsSome request.kind) × All (λ one.
 held_by : (url : Parts) (way : Way) (entries : List Entry) → IsHeld (listed_request url way entries)
 unfolding file_numbers file_sizes
 held_by url ways.Query entries = (λ post. absurd (cc post), All-nil (λ (one : Piece). (contents : Contents) → IsReady contents one), refl, refl)
-held_by url ways.Urlencoded entries = (λ post. refl, All-cons (λ (one : Piece). (contents : Contents) → IsReady contents one) _ [] (λ contents. tt) (All-nil (λ (one : Piece). (contents : Contents) → IsReady contents one)), refl, refl)
-held_by url ways.Plain entries = (λ post. refl, All-cons (λ (one : Piece). (contents : Contents) → IsReady contents one) _ [] (λ contents. tt) (All-nil (λ (one : Piece). (contents : Contents) → IsReady contents one)), refl, refl)
+held_by url ways.Urlencoded entries = (
+  λ post. refl,
+  All-cons (λ (one : Piece). (contents : Contents) → IsReady contents one) _ [] (λ contents. tt)
+      (All-nil (λ (one : Piece). (contents : Contents) → IsReady contents one)),
+  refl,
+  refl,
+)
+held_by url ways.Plain entries = (
+  λ post. refl,
+  All-cons (λ (one : Piece). (contents : Contents) → IsReady contents one) _ [] (λ contents. tt)
+      (All-nil (λ (one : Piece). (contents : Contents) → IsReady contents one)),
+  refl,
+  refl,
+)
 
 held_as_it_is : (url : Parts) → IsHeld (action_request url)
 unfolding file_numbers file_sizes

@@ -1,5 +1,6 @@
 -- A body that is sent piece by piece.
-use Rattle.std.proofs.Common.{◌≡◌, ◌≢◌, ℕ, zero, suc, ◌+◌, ◌-◌, ◌<◌, ◌≤◌, List, [], ◌∷◌, ◌++◌, length, take, drop, get_or, set, replicate, Ok, Err, Some, None, IfSome, refl, sym, ap, subst, ◌∙◌, arith, append_assoc, append-nil, take-append-drop, flat_map}
+use Rattle.std.proofs.Common.{◌≡◌, ◌≢◌, ℕ, zero, suc, ◌+◌, ◌-◌, ◌<◌, ◌≤◌, List, [], ◌∷◌, ◌++◌, length, take, drop, get_or, set, replicate, Ok, Err, Some, None, IfSome, refl, sym, ap}
+use Rattle.std.proofs.Common.{subst, ◌∙◌, arith, append_assoc, append-nil, take-append-drop, flat_map}
 use Rattle.std.specs.Prelude.{Option, Result, IfErr, OnOk, All, Contains, slice_index_or}
 use Rattle.std.specs.List.{AllZip, concat}
 use Rattle.std.proofs.lemmas.List.{take_more, drop_more, take_all, length-replicate}

@@ -15,7 +15,7 @@ use Rattle.form_submit.specs.declared.request.Request.{Request}
 abbrev pub piece_size : ℕ
 piece_size = 1024
 
--- the body in pieces of 1,024 bytes, the last one shorter where needed, and none for an empty body
+-- the body in pieces of so many bytes, the last one shorter where needed, and none for an empty body
 unfoldable pub pieces_of : List ℕ → List (List ℕ)
 pieces_of body = first_chunks piece_size (div_ceil (length body) piece_size) body
 

@@ -12,4 +12,6 @@ returns-then-piece-ge-OVERLAP-clause-long c = λ _.
 
 pub returns-else-piece-ge-OVERLAP-clause-short : goal.returns-else-piece-ge-OVERLAP-clause-short
 returns-else-piece-ge-OVERLAP-clause-short c = λ _.
-    last_bytes-within overlap c.args.joined c.saturating_sub-first.result _ c.args.room.now _ (omega (arith, c.requires, c.told-room)) (omega (arith, c.saturating_sub-first.ensures)) (omega arith) c.copy_within.ensures.after
+    last_bytes-within overlap c.args.joined c.saturating_sub-first.result _ c.args.room.now _
+    (omega (arith, c.requires, c.told-room)) (omega (arith, c.saturating_sub-first.ensures)) (omega arith)
+    c.copy_within.ensures.after

@@ -1,6 +1,7 @@
 use Rattle.std.proofs.Common.{arith, refl, ◌∙◌}
 use Rattle.form_ports.proofs.Laws.{NoneFell-trans, NoneFell-same}
-use Rattle.form_submit.proofs.SendLaws.{BodyGathers-none, BodyGathers-item, WroteBodyPart-item, WroteBody-end, WroteBodyPart-end, others-item, others-whole, BodyCause-item, LastSizes-item, LastSizes-start, LastSizes-whole}
+use Rattle.form_submit.proofs.SendLaws.{BodyGathers-none, BodyGathers-item, WroteBodyPart-item, WroteBody-end, WroteBodyPart-end, others-item, others-whole, BodyCause-item}
+use Rattle.form_submit.proofs.SendLaws.{LastSizes-item, LastSizes-start, LastSizes-whole}
 use Rattle.form_submit.proofs.body.send_body.Goals as goal
 
 pub sending-init : goal.sending-init

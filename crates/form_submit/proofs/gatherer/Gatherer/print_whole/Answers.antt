@@ -4,21 +4,21 @@ use Rattle.form_submit.proofs.gatherer.Gatherer.print_whole.Goals as goal
 
 pub returns-in_err-write_data-clause-part : goal.returns-in_err-write_data-clause-part
 returns-in_err-write_data-clause-part g c =
-    GathersPart-piece _ _ _ (ap length (sym c.bytes-kept.ensures.bytes) ∙ c.if-kept-eq1024.true)
+    GathersPart-piece _ _ _ (ap length (sym c.bytes-kept.ensures.bytes) ∙ c.if-kept-eq-PIECE_SIZE.true)
     (rw (sym c.bytes-kept.ensures.bytes) c.in_err-write_data.ensures.part)
 
 pub returns-in_ok-write_data-clause-gathers : goal.returns-in_ok-write_data-clause-gathers
 returns-in_ok-write_data-clause-gathers g c =
-    rw c.clear.ensures (Gathers-piece _ _ _ (ap length (sym c.bytes-kept.ensures.bytes) ∙ c.if-kept-eq1024.true)
+    rw c.clear.ensures (Gathers-piece _ _ _ (ap length (sym c.bytes-kept.ensures.bytes) ∙ c.if-kept-eq-PIECE_SIZE.true)
     (rw (sym c.bytes-kept.ensures.bytes) c.in_ok-write_data.ensures.whole))
 
 pub returns-in_ok-write_data-clause-part : goal.returns-in_ok-write_data-clause-part
 returns-in_ok-write_data-clause-part g c =
-    GathersPart-piece _ _ _ (ap length (sym c.bytes-kept.ensures.bytes) ∙ c.if-kept-eq1024.true)
+    GathersPart-piece _ _ _ (ap length (sym c.bytes-kept.ensures.bytes) ∙ c.if-kept-eq-PIECE_SIZE.true)
     (rw (sym c.bytes-kept.ensures.bytes) c.in_ok-write_data.ensures.part)
 
-pub returns-else-kept-eq1024-clause-gathers : goal.returns-else-kept-eq1024-clause-gathers
-returns-else-kept-eq1024-clause-gathers g c = Gathers-none _ _
+pub returns-else-kept-eq-PIECE_SIZE-clause-gathers : goal.returns-else-kept-eq-PIECE_SIZE-clause-gathers
+returns-else-kept-eq-PIECE_SIZE-clause-gathers g c = Gathers-none _ _
 
-pub returns-else-kept-eq1024-clause-part : goal.returns-else-kept-eq1024-clause-part
-returns-else-kept-eq1024-clause-part g c = GathersPart-whole _ _ _ _ _ (Gathers-none _ _)
+pub returns-else-kept-eq-PIECE_SIZE-clause-part : goal.returns-else-kept-eq-PIECE_SIZE-clause-part
+returns-else-kept-eq-PIECE_SIZE-clause-part g c = GathersPart-whole _ _ _ _ _ (Gathers-none _ _)

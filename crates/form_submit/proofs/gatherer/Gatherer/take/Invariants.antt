@@ -1,4 +1,5 @@
 use Rattle.std.proofs.Common.{length, take, ◌-◌, ◌≤◌, ◌<◌}
+use Rattle.form_submit.specs.PrintedRequest.{piece_size}
 use Rattle.form_submit.specs.Sending.{Gathers}
 use Rattle.form_submit.proofs.gatherer.Gatherer.take.Given as goal
 
@@ -7,7 +8,7 @@ abbrev pub invariant-taking : goal.invariant-taking
 invariant-taking g l =
     Gathers (g.K.Sink.written l.initial.sink) (g.K.Sink.written l.sink) l.initial.self (take l.done l.bytes) l.self
     × (l.done ≤ length l.bytes)
-    × (length l.self < 1024)
+    × (length l.self < piece_size)
     × (g.K.Sink.faults l.initial.sink ≤ g.K.Sink.faults l.sink)
 
 abbrev pub decreases-taking : goal.decreases-taking

@@ -1,0 +1,4 @@
+use Rattle.form_worked_requests.proofs.uploads.outcomes_of_files.Given as goal
+
+abbrev pub ghosts-first_wrong : goal.ghosts-first_wrong
+ghosts-first_wrong a b = record { name = b.blank.name; parts = b.blank.parts }

@@ -5,8 +5,9 @@ use Rattle.form_acts.proofs.Groups.{radio_marking, select_marking}
 use Rattle.form_acts.proofs.Marks.{OneMarkedBut, nobody, raised}
 use Rattle.form_acts.proofs.Sound.{IsSettledBut, all_where, groups_where, radios_settled, same_marks, selectedness_kept, selection_settled, selects_where, tree_where, values_where}
 use Rattle.form_acts.proofs.SoundLaws.{sound_but_nobody, sound_from}
-use Rattle.form_acts.specs.Acts.{after_check, after_pick, after_set_selected, is_picked, with_select_of, with_selected}
-use Rattle.form_acts.specs.Changing.{set_checked, set_selected}
+use Rattle.form_acts.specs.Acts.{after_check, after_pick, after_set_selected, is_picked}
+use Rattle.form_drafts.specs.Drafts.{with_select_of, with_selected}
+use Rattle.form_changes.specs.Changing.{set_checked, set_selected}
 use Rattle.form_acts.specs.Soundness.{HasSoundMarks, IsSettled}
 use Rattle.form_page.specs.Settling.{not_selected, off, with_selectedness}
 use Rattle.form_tree.proofs.Laws.{KeepsElements}

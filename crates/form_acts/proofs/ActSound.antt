@@ -14,25 +14,27 @@ use Rattle.form_page.specs.declared.file.File.{File}
 use Rattle.form_page.specs.Editing.{without_file, without_file_at}
 use Rattle.form_page.specs.Page.{Page, name_if_there}
 use Rattle.form_page.specs.Settling.{moved_inputs, with_radio, with_selectedness}
-use Rattle.form_acts.specs.declared.act.Act.{Act}
-use Rattle.form_acts.specs.declared.act.Act.TheVariants as acts
-use Rattle.form_acts.specs.declared.act.ActFault.{ActFault}
-use Rattle.form_acts.specs.declared.act.ActFault.TheVariants as faults
-use Rattle.form_acts.specs.declared.role.Role.{Role}
-use Rattle.form_acts.specs.declared.role.Role.TheVariants as roles
-use Rattle.form_acts.specs.Acts.{after_act, after_attr, after_change, after_choose, after_set, files_after_act, if_on, is_attr_change, nodes_after_act, outcome, page_unless, settled_after, with_select_of, with_selected}
-use Rattle.form_acts.specs.Changing.{changed_attr, changes_state, chosen, follows_checked, follows_selected, follows_value, given, role_of, without_file_number}
+use Rattle.form_changes.specs.declared.act.Act.{Act}
+use Rattle.form_changes.specs.declared.act.Act.TheVariants as acts
+use Rattle.form_changes.specs.declared.act.ActFault.{ActFault}
+use Rattle.form_changes.specs.declared.act.ActFault.TheVariants as faults
+use Rattle.form_changes.specs.declared.role.Role.{Role}
+use Rattle.form_changes.specs.declared.role.Role.TheVariants as roles
+use Rattle.form_acts.specs.Acts.{after_act, after_attr, after_change, after_choose, after_set, files_after_act, if_on, is_attr_change, nodes_after_act, outcome, page_unless, settled_after}
+use Rattle.form_drafts.specs.Drafts.{with_select_of, with_selected}
+use Rattle.form_changes.specs.Changing.{changed_attr, changes_state, chosen, follows_checked, follows_selected, follows_value, given, role_of, without_file_number}
 use Rattle.form_acts.specs.Refusals.{is_beyond, is_file_there, is_immutable, is_of_kind, lacks_file, makes_email, refusal_at, refusal_found, refusal_of}
-use Rattle.form_acts.specs.Resetting.{reset_input, reset_option, reset_textarea, resettables, with_options_reset, with_reset}
+use Rattle.form_drafts.specs.Resetting.{reset_input, reset_option, reset_textarea, resettables, with_options_reset, with_reset}
 use Rattle.form_acts.specs.Soundness.{IsSettled, IsSound, IsWithin, most_depth, most_elements}
-use Rattle.form_acts.specs.Values.{is_range, with_value}
+use Rattle.form_changes.specs.Values.{is_range, with_value}
 use Rattle.form_acts.proofs.ActLaws.{check_settled, pick_settled, set_selected_settled}
 use Rattle.form_acts.proofs.AttrLaws.{attr_settled}
-use Rattle.form_acts.proofs.Bounds.{IsBoundedAs, IsMild, bounded_closed, through_check, through_custom, through_pick, through_radio, through_radios, through_select_of, through_selected, through_selectedness, through_set_selected, through_text, through_user, through_value}
+use Rattle.form_acts.proofs.Bounds.{IsBoundedAs, bounded_closed, through_check, through_custom, through_pick, through_set_selected, through_text, through_user}
+use Rattle.form_drafts.proofs.Mild.{IsMild, changed_where, through_radio, through_radios, through_select_of, through_selected, through_selectedness, through_value}
 use Rattle.form_acts.proofs.EditedLaws.{choose_settled, custom_settled, given_still, set_settled, text_settled, user_settled, withdraw_settled}
 use Rattle.form_acts.proofs.ResetLaws.{reset_settled}
 use Rattle.form_acts.proofs.Shapes.{same_depth, same_length}
-use Rattle.form_acts.proofs.Sound.{all_where, changed_where, shape_kept}
+use Rattle.form_acts.proofs.Sound.{all_where, shape_kept}
 use Rattle.form_acts.proofs.Within.{attr_change_within, changed_key, changed_parent, given_within, within_at}
 
 -- ---- groups, selects, values and marks

@@ -9,11 +9,11 @@ use Rattle.form_page.specs.declared.edit.Edit.TheVariants.{Gone}
 use Rattle.form_page.specs.Editing.{AreThere, after_edit, edited, edited_key}
 use Rattle.form_page.specs.Page.{Page}
 use Rattle.form_acts.proofs.ActSound.{act_sound}
-use Rattle.form_acts.proofs.DraftLaws.{edited_last}
-use Rattle.form_acts.specs.declared.act.Act.{Act}
-use Rattle.form_acts.specs.declared.act.Act.TheVariants as acts
-use Rattle.form_acts.specs.Acts.{after_act, files_after_act, nodes_after_act, outcome, page_unless}
-use Rattle.form_acts.specs.Drafts.{Draft, draft_of, gone_of, page_with}
+use Rattle.form_drafts.proofs.DraftLaws.{edited_last}
+use Rattle.form_changes.specs.declared.act.Act.{Act}
+use Rattle.form_changes.specs.declared.act.Act.TheVariants as acts
+use Rattle.form_acts.specs.Acts.{after_act, files_after_act, gone_of, nodes_after_act, outcome, page_unless}
+use Rattle.form_drafts.specs.Drafts.{Draft, draft_of, page_with}
 use Rattle.form_acts.specs.Refusals.{refusal_of}
 use Rattle.form_acts.specs.Soundness.{IsSound}
 

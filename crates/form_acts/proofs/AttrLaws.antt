@@ -17,12 +17,13 @@ use Rattle.form_tree.specs.Tree.{Nodes, is_key, with_node}
 use Rattle.form_tree.proofs.Laws.{KeepsElements, attr_other, names_still_differ}
 use Rattle.form_judge.specs.Controls.{own_limits}
 use Rattle.form_page.specs.Settling.{not_selected, off, with_radio, with_radios}
-use Rattle.form_acts.specs.declared.role.Role.{Role}
-use Rattle.form_acts.specs.declared.role.Role.TheVariants as roles
-use Rattle.form_acts.specs.Acts.{after_attr, after_change, if_on, is_attr_change, with_select_of, with_selected}
-use Rattle.form_acts.specs.Changing.{follows_checked, follows_selected, follows_value, role_of, with_checked, with_selected_as, with_value_text}
+use Rattle.form_changes.specs.declared.role.Role.{Role}
+use Rattle.form_changes.specs.declared.role.Role.TheVariants as roles
+use Rattle.form_acts.specs.Acts.{after_attr, after_change, if_on, is_attr_change}
+use Rattle.form_drafts.specs.Drafts.{with_select_of, with_selected}
+use Rattle.form_changes.specs.Changing.{follows_checked, follows_selected, follows_value, role_of, with_checked, with_selected_as, with_value_text}
 use Rattle.form_acts.specs.Soundness.{HasSanitisedValue, HasSoundMarks, IsSettled}
-use Rattle.form_acts.specs.Values.{has_kept_value, is_range, is_range_kind, is_value_mode, with_value}
+use Rattle.form_changes.specs.Values.{has_kept_value, is_range, is_range_kind, is_value_mode, with_value}
 use Rattle.form_acts.proofs.ActLaws.{select_of_settled, selected_settled}
 use Rattle.form_acts.proofs.Groups.{radio_marking, select_marking}
 use Rattle.form_acts.proofs.Marks.{nobody, raised}
@@ -33,7 +34,7 @@ use Rattle.form_acts.proofs.Sound.{IsSettledBut, all_where, groups_where, one_ra
 use Rattle.form_acts.proofs.SoundLaws.{sound_but_nobody, sound_from}
 use Rattle.form_acts.proofs.Still.{IsApart, IsNoLimit, IsStill, agreeing, changed_twice, kind_same, still_attr, still_by, still_none, still_of, still_one, still_sanitised, still_settled, still_then}
 use Rattle.form_acts.proofs.TypeLaws.{type_settled}
-use Rattle.form_acts.proofs.ValueLaws.{limits_apart}
+use Rattle.form_changes.proofs.ValueLaws.{limits_apart}
 
 -- ---- `value`, `min`, `max` and `step`
 

@@ -1,91 +1,26 @@
 -- What acts keep of the bounds of a page: the shape of its tree, and the limits of each element.
-use Rattle.std.proofs.Common.{◌≡◌, ℕ, ◌≤◌, ◌==◌, Bool, true, false, not, ◌&&◌, cond, List, [], ◌∷◌, length, Option, Some, None, refl, sym, ◌∙◌, subst, codes}
+use Rattle.std.proofs.Common.{◌≡◌, ℕ, ◌≤◌, Bool, true, false, not, ◌&&◌, cond, List, [], length, refl, sym, ◌∙◌, subst, codes}
 use Rattle.std.specs.List.{All}
-use Rattle.std.specs.Option.{option_map_or}
 use Rattle.std.proofs.lemmas.Bool.{cond_both}
 use Rattle.form_types.specs.TypeTable.{kind_named, names_email}
 use Rattle.form_tree.specs.declared.node.Key.{Key}
 use Rattle.form_tree.specs.declared.node.Node.{Node}
-use Rattle.form_tree.specs.Elements.{is_input_tag, is_textarea, passes}
-use Rattle.form_tree.specs.RadioGroup.{is_checked, share_group}
-use Rattle.form_tree.specs.Selects.{display_size, is_multiple, is_option_of, select_of, share_select}
+use Rattle.form_tree.specs.Elements.{is_input_tag, is_textarea}
 use Rattle.form_tree.specs.Tree.{Nodes, attr_in, is_key, shape_of, with_node}
 use Rattle.form_page.specs.declared.file.File.{File}
-use Rattle.form_page.specs.Settling.{changed_but, first_enabled, last_selected, not_selected, now_selected, off, with_last, with_radio, with_radios, with_selectedness, with_selection}
-use Rattle.form_acts.specs.Acts.{after_check, after_custom, after_pick, after_set_selected, after_text, after_user, if_on, is_picked, with_select_of, with_selected}
-use Rattle.form_acts.specs.Changing.{is_file_kind, retold, set_checked, set_selected, typed, with_message}
-use Rattle.form_acts.specs.Refusals.{is_file_there, most_attributes}
+use Rattle.form_acts.specs.Acts.{after_check, after_custom, after_pick, after_set_selected, after_text, after_user, if_on, is_picked}
+use Rattle.form_drafts.specs.Drafts.{with_selected}
+use Rattle.form_changes.specs.Changing.{is_file_kind, retold, set_checked, set_selected, typed, with_message}
+use Rattle.form_acts.specs.Refusals.{is_file_there}
+use Rattle.form_changes.specs.declared.TheConstants.{MOST_ATTRIBUTES}
 use Rattle.form_acts.specs.Soundness.{IsWithin}
-use Rattle.form_acts.specs.Values.{has_kept_value, with_sanitised_value, with_value}
-use Rattle.form_acts.proofs.Sound.{all_where, changed_where, shape_kept}
+use Rattle.form_changes.specs.Values.{has_kept_value}
+use Rattle.form_acts.proofs.Sound.{all_where, shape_kept}
+use Rattle.form_drafts.proofs.Mild.{IsMild, changed_where, through_radios, through_select_of, through_selected}
 
--- a change that keeps what an element is and which files it has
-pub record IsMild (f : Node → Node) : Type 0 where
-  pub key : (n : Node) → (f n).key ≡ n.key
-  pub parent : (n : Node) → (f n).parent ≡ n.parent
-  pub tag : (n : Node) → (f n).tag ≡ n.tag
-  pub attrs : (n : Node) → (f n).attrs ≡ n.attrs
-  pub files : (n : Node) → (f n).state.files ≡ n.state.files
-
--- ---- the steps are mild changes, one after the other
+-- ---- acts whose change is mild
 
 module _ (R : Nodes → Type 0) (closed : (f : Node → Node) → IsMild f → (test : Node → Bool) (u : Nodes) → R u → R (changed_where test f u)) where
-  off_mild : IsMild off
-  off_mild = record { key = λ n. refl; parent = λ n. refl; tag = λ n. refl; attrs = λ n. refl; files = λ n. refl }
-
-  not_selected_mild : IsMild not_selected
-  not_selected_mild = record { key = λ n. refl; parent = λ n. refl; tag = λ n. refl; attrs = λ n. refl; files = λ n. refl }
-
-  now_selected_mild : IsMild now_selected
-  now_selected_mild = record { key = λ n. refl; parent = λ n. refl; tag = λ n. refl; attrs = λ n. refl; files = λ n. refl }
-
-  sanitised_mild : IsMild with_sanitised_value
-  sanitised_mild = record {
-    key = λ n. cond_both (has_kept_value n) _ n (λ m. m.key ≡ n.key) (λ _. refl) (λ _. refl);
-    parent = λ n. cond_both (has_kept_value n) _ n (λ m. m.parent ≡ n.parent) (λ _. refl) (λ _. refl);
-    tag = λ n. cond_both (has_kept_value n) _ n (λ m. m.tag ≡ n.tag) (λ _. refl) (λ _. refl);
-    attrs = λ n. cond_both (has_kept_value n) _ n (λ m. m.attrs ≡ n.attrs) (λ _. refl) (λ _. refl);
-    files = λ n. cond_both (has_kept_value n) _ n (λ m. m.state.files ≡ n.state.files) (λ _. refl) (λ _. refl);
-  }
-
-  pub through_radio : (u : Nodes) (k : Key) → R u → R (with_radio u k)
-  through_radio u k r = cond_both (passes is_checked u k) (changed_but off (share_group u k) k u) u R (λ _. closed off off_mild (λ n. share_group u k n.key && not (is_key k n)) u r) (λ _. r)
-
-  pub through_radios : (ks : List Key) (u : Nodes) → R u → R (with_radios u ks)
-  through_radios [] u r = r
-  through_radios (k ∷ ks) u r = through_radios ks (with_radio u k) (through_radio u k r)
-
-  pub through_selection : (u : Nodes) (k : Key) → R u → R (with_selection u k)
-  through_selection u k r = closed not_selected not_selected_mild (λ n. share_select u k n.key && not (is_key k n)) u r
-
-  pub through_selected : (u : Nodes) (k : Key) (on : Bool) → R u → R (with_selected u k on)
-  through_selected u k true r = through_selection u k r
-  through_selected u k false r = r
-
-  pub through_selectedness : (u : Nodes) (s : Key) → R u → R (with_selectedness u s)
-  through_selectedness u s r = cond_both (is_multiple u s) u (with_last u s (last_selected u s)) R (λ _. r) (λ _. last (last_selected u s))
-    where
-      first : (b : Bool) (o : Option Node) → R (cond b (option_map_or (λ (n : Node). with_node u n.key now_selected) o u) u)
-      first true (Some n) = closed now_selected now_selected_mild (is_key n.key) u r
-      first true None = r
-      first false o = r
-
-      last : (o : Option Node) → R (with_last u s o)
-      last (Some n) = closed not_selected not_selected_mild (λ m. is_option_of u s m.key && not (is_key n.key m)) u r
-      last None = first (display_size u s == 1) (first_enabled u s)
-
-  pub through_select_of : (u : Nodes) (k : Key) → R u → R (with_select_of u k)
-  through_select_of u k r = go (select_of u k)
-    where
-      go : (o : Option Key) → R (option_map_or (with_selectedness u) o u)
-      go (Some s) = through_selectedness u s r
-      go None = r
-
-  pub through_value : (u : Nodes) (k : Key) → R u → R (with_value u k)
-  through_value u k r = closed with_sanitised_value sanitised_mild (is_key k) u r
-
-  -- ---- acts whose change is mild
-
   pub through_user : (u : Nodes) (k : Key) (text : List ℕ) → R u → R (after_user u k text)
   through_user u k text r = closed (typed text) (record {
     key = λ n. cond_both (has_kept_value n) _ _ (λ (m : Node). m.key ≡ n.key) (λ _. refl) (λ _. refl);
@@ -108,23 +43,23 @@ module _ (R : Nodes → Type 0) (closed : (f : Node → Node) → IsMild f → (
   through_custom u k text r = closed (with_message text) (record { key = λ n. refl; parent = λ n. refl; tag = λ n. refl; attrs = λ n. refl; files = λ n. refl }) (is_key k) u r
 
   pub through_check : (u : Nodes) (k : Key) (on : Bool) → R u → R (after_check u k on)
-  through_check u k on r = through_radios (if_on on k) (with_node u k (set_checked on)) (closed (set_checked on) (record { key = λ n. refl; parent = λ n. refl; tag = λ n. refl; attrs = λ n. refl; files = λ n. refl }) (is_key k) u r)
+  through_check u k on r = through_radios R closed (if_on on k) (with_node u k (set_checked on)) (closed (set_checked on) (record { key = λ n. refl; parent = λ n. refl; tag = λ n. refl; attrs = λ n. refl; files = λ n. refl }) (is_key k) u r)
 
   set_selected_through : (u : Nodes) (k : Key) (on : Bool) → R u → R (with_node u k (set_selected on))
   set_selected_through u k on r = closed (set_selected on) (record { key = λ n. refl; parent = λ n. refl; tag = λ n. refl; attrs = λ n. refl; files = λ n. refl }) (is_key k) u r
 
   pub through_pick : (u : Nodes) (k : Key) → R u → R (after_pick u k)
-  through_pick u k r = through_selected (with_node u k (set_selected (is_picked u k))) k (is_picked u k) (set_selected_through u k (is_picked u k) r)
+  through_pick u k r = through_selected R closed (with_node u k (set_selected (is_picked u k))) k (is_picked u k) (set_selected_through u k (is_picked u k) r)
 
   pub through_set_selected : (u : Nodes) (k : Key) (on : Bool) → R u → R (after_set_selected u k on)
-  through_set_selected u k on r = through_select_of (with_selected (with_node u k (set_selected on)) k on) k (through_selected (with_node u k (set_selected on)) k on (set_selected_through u k on r))
+  through_set_selected u k on r = through_select_of R closed (with_selected (with_node u k (set_selected on)) k on) k (through_selected R closed (with_node u k (set_selected on)) k on (set_selected_through u k on r))
 
 -- ---- limits and shape
 
 -- what is within its limits stays so where what it is and its files stay
 pub within_like : (files : List File) (n m : Node) → m.tag ≡ n.tag → m.attrs ≡ n.attrs → m.state.files ≡ n.state.files → IsWithin files n → IsWithin files m
 within_like files n m tag attrs chosen h = record {
-  attributes = subst (λ (a : List (List ℕ × List ℕ)). length a ≤ most_attributes) (sym attrs) h.attributes;
+  attributes = subst (λ (a : List (List ℕ × List ℕ)). length a ≤ MOST_ATTRIBUTES) (sym attrs) h.attributes;
   email = λ e. subst (λ (a : List (List ℕ × List ℕ)). names_email (attr_in a (codes "type")) ≡ false) (sym attrs) (h.email (subst (λ t. is_input_tag t ≡ true) tag e));
   chosen = λ e. chosen ∙ h.chosen (subst (λ (a : List (List ℕ × List ℕ)). (is_input_tag n.tag && is_file_kind (kind_named (attr_in a (codes "type")))) ≡ false) attrs (subst (λ t. (is_input_tag t && is_file_kind (kind_named (attr_in m.attrs (codes "type")))) ≡ false) tag e));
   there = subst (λ (fs : List ℕ). All (λ number. is_file_there files number ≡ true) fs) (sym chosen) h.there;

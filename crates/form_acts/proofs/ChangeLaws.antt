@@ -12,13 +12,13 @@ use Rattle.form_tree.specs.Attributes.{set_attr, with_attr}
 use Rattle.form_tree.specs.Elements.{is_input, kind_of}
 use Rattle.form_tree.specs.Tree.{IsTree, Nodes, at_key, with_node, with_state}
 use Rattle.form_page.specs.Settling.{with_radio, with_radios}
-use Rattle.form_acts.proofs.AttrCounts.{kind_made}
-use Rattle.form_acts.proofs.DraftLaws.{at_changed, attr_then_put, none_changed, put_changed, same_changed, twice_changed}
-use Rattle.form_acts.specs.declared.role.Role.TheVariants as roles
+use Rattle.form_changes.proofs.AttrCounts.{kind_made}
+use Rattle.form_drafts.proofs.DraftLaws.{at_changed, attr_then_put, none_changed, put_changed, same_changed, twice_changed}
+use Rattle.form_changes.specs.declared.role.Role.TheVariants as roles
 use Rattle.form_acts.specs.Acts.{after_change, if_on}
-use Rattle.form_acts.specs.Changing.{changed_attr, changes_state, follows_checked, follows_selected, follows_value, same_kind, with_checked, with_kind, with_selected_as, with_value_text}
-use Rattle.form_acts.specs.Counting.{moves_value, value_moved}
-use Rattle.form_acts.specs.Values.{with_value}
+use Rattle.form_changes.specs.Changing.{changed_attr, changes_state, follows_checked, follows_selected, follows_value, same_kind, with_checked, with_kind, with_selected_as, with_value_text}
+use Rattle.form_changes.specs.Counting.{moves_value, value_moved}
+use Rattle.form_changes.specs.Values.{with_value}
 
 module _ (ns : Nodes) (k : Key) (name : List ℕ) (value : Option (List ℕ)) where
   -- nothing is set where there is no element

@@ -5,8 +5,8 @@ use Rattle.form_types.specs.TypeTable.{kind_in, row_of}
 use Rattle.form_tree.specs.declared.node.Tag.TheVariants as tags
 use Rattle.form_tree.specs.Tree.{Nodes}
 use Rattle.form_page.specs.Page.{Page, new_file}
-use Rattle.form_acts.specs.declared.act.Act.TheVariants as acts
-use Rattle.form_acts.specs.declared.act.ActFault.TheVariants as faults
+use Rattle.form_changes.specs.declared.act.Act.TheVariants as acts
+use Rattle.form_changes.specs.declared.act.ActFault.TheVariants as faults
 use Rattle.form_acts.specs.declared.clicked.Clicked.TheVariants as clicks
 use Rattle.form_acts.specs.Clicking.{click_of, implicit_of}
 use Rattle.form_acts.specs.Refusals.{refusal_of}

@@ -1,37 +1,16 @@
 -- Of each group at most one is marked, counted: the same as said of each two of them.
-use Rattle.std.proofs.Common.{◌≡◌, ℕ, zero, suc, ◌+◌, ◌<◌, ◌≤◌, Bool, true, false, ◌&&◌, cond, [], ◌∷◌, length, get_or, Some, refl, sym, ◌∙◌, subst, arith}
+use Rattle.std.proofs.Common.{◌≡◌, ℕ, suc, ◌+◌, ◌<◌, ◌≤◌, Bool, true, false, ◌&&◌, cond, [], ◌∷◌, length, get_or, Some, refl, sym, ◌∙◌, subst, arith}
 use Rattle.std.specs.List.{count_by, filter, find}
 use Rattle.std.proofs.lemmas.Bool.{and_parts, and_from, both_ways}
 use Rattle.std.proofs.lemmas.List.Sums.{length-filter}
 use Rattle.std.proofs.lemmas.Option.{none-some, same_Some}
+use Rattle.form_drafts.proofs.KeyPlaces.{KeysDiffer, at_place, behind, keys_differ}
 use Rattle.form_acts.proofs.Marks.{OneMarked}
 use Rattle.form_tree.proofs.Laws.{found_key, key_same, passes_found, passes_there, same_key-refl}
-use Rattle.form_tree.proofs.Places.{keys_apart}
 use Rattle.form_tree.specs.Elements.{passes, same_key}
 use Rattle.form_tree.specs.Tree.{IsTree, Nodes, at_key, is_key}
 use Rattle.form_tree.specs.declared.node.Key.{Key}
 use Rattle.form_tree.specs.declared.node.Node.{Node}
-
--- ---- lists whose keys differ
-
-abbrev pub KeysDiffer : Nodes → Type 0
-KeysDiffer t = (i j : ℕ) (d : Node) → i < j → j < length t → (get_or t i d).key ≡ (get_or t j d).key → ⊥
-
-pub keys_differ : (t : Nodes) → IsTree t → KeysDiffer t
-keys_differ t tree i j d lower below same = keys_apart t tree.shape i j d lower below same
-
-behind : (n : Node) (t : Nodes) → KeysDiffer (n ∷ t) → KeysDiffer t
-behind n t differ i j d lower below same = differ (suc i) (suc j) d (omega arith) (omega arith) same
-
--- the node at a place is the node of its key
-pub at_place : (t : Nodes) → KeysDiffer t → (i : ℕ) (d : Node) → i < length t → at_key t (get_or t i d).key ≡ Some (get_or t i d)
-at_place [] differ i d below = absurd (omega arith)
-at_place (n ∷ t) differ zero d below = rw (same_key-refl n.key) refl
-at_place (n ∷ t) differ (suc i) d below = go (at_place t (behind n t differ) i d (omega arith)) (same_key (get_or t i d).key n.key) refl
-  where
-    go : at_key t (get_or t i d).key ≡ Some (get_or t i d) → (b : Bool) → same_key (get_or t i d).key n.key ≡ b → cond b (Some n) (at_key t (get_or t i d).key) ≡ Some (get_or t i d)
-    go more true e = absurd (differ 0 (suc i) d (omega arith) (omega arith) (sym (key_same _ _ e)))
-    go more false e = more
 
 -- ---- counts behind a filter
 

@@ -10,13 +10,13 @@ use Rattle.form_tree.specs.Attributes.{set_attr}
 use Rattle.form_tree.specs.Elements.{is_input, is_textarea, kind_of}
 use Rattle.form_tree.specs.Tree.{Nodes, attr_in}
 use Rattle.form_acts.specs.Acts.{after_choose, after_custom, after_set, after_text, after_user, after_withdraw}
-use Rattle.form_acts.specs.Changing.{chosen, given, given_in, retold, typed, typed_text, with_message, without_file_number}
+use Rattle.form_changes.specs.Changing.{chosen, given, given_in, retold, typed, typed_text, with_message, without_file_number}
 use Rattle.form_acts.specs.Soundness.{HasSanitisedValue, IsSettled}
-use Rattle.form_acts.specs.Values.{has_kept_value, is_value_mode, sanitised_as}
+use Rattle.form_changes.specs.Values.{has_kept_value, is_value_mode, sanitised_as}
 use Rattle.form_acts.proofs.ResetLaws.{no_input}
 use Rattle.form_acts.proofs.SoundLaws.{sound_but_nobody, sound_from}
 use Rattle.form_acts.proofs.Still.{IsApart, IsStill, kind_same, still_all, still_attr, still_by, still_of, still_settled}
-use Rattle.form_acts.proofs.ValueLaws.{sanitised_again}
+use Rattle.form_changes.proofs.ValueLaws.{sanitised_again}
 
 -- what a text was sanitised to is sanitised
 again : (n : Node) (text : List ℕ) → sanitised_as n (sanitised_as n text) ≡ sanitised_as n text

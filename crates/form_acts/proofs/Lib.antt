@@ -1,23 +1,19 @@
 mod ActLaws
 mod ActSound
 mod ApplyLaws
-mod AttrCounts
 mod AttrLaws
 mod Bounds
 mod ChangeLaws
 mod ClickRows
 mod Counts
-mod DraftLaws
-mod EachLaws
 mod EditedLaws
 mod Groups
 pub mod Laws
-mod LikeLaws
 mod Marks
 mod Moves
+mod NearRows
 mod OneElement
 mod OpenedSound
-mod OptionLaws
 mod ResetLaws
 mod Rows
 mod SelectAttrs
@@ -28,5 +24,4 @@ mod Sound
 mod SoundLaws
 mod Still
 mod TypeLaws
-mod ValueLaws
 mod Within

@@ -28,15 +28,15 @@ use Rattle.form_page.specs.declared.file.File.{File}
 use Rattle.form_page.specs.Opening.{is_outdone, opened, opened_nodes, settled_radios_of, unchecked_if, with_first_states, with_settled_radios, with_settled_selects, with_state_if}
 use Rattle.form_page.specs.Page.{new_file}
 use Rattle.form_page.specs.Settling.{off}
-use Rattle.form_acts.specs.Changing.{with_selected_as}
+use Rattle.form_changes.specs.Changing.{with_selected_as}
 use Rattle.form_acts.specs.Soundness.{HasSanitisedValue, HasSoundMarks, IsAllowed, IsOpenable, IsSettled, IsSound, IsWithin, most_depth, most_elements}
-use Rattle.form_acts.specs.Values.{is_value_mode}
+use Rattle.form_changes.specs.Values.{is_value_mode}
 use Rattle.form_acts.proofs.Groups.{radio_marking}
 use Rattle.form_acts.proofs.Marks.{OneMarked, fewer, nobody}
 use Rattle.form_acts.proofs.Shapes.{same_depth, same_length}
 use Rattle.form_acts.proofs.Sound.{IsSettledBut, same_marks, shape_kept}
 use Rattle.form_acts.proofs.SoundLaws.{sound_from}
-use Rattle.form_acts.proofs.ValueLaws.{sanitised_again}
+use Rattle.form_changes.proofs.ValueLaws.{sanitised_again}
 
 -- an element in its first state
 abbrev begun : Node → Node

@@ -4,14 +4,14 @@ use Rattle.std.specs.List.{All, fold}
 use Rattle.std.proofs.lemmas.Bool.{and_parts, both_ways}
 use Rattle.std.proofs.lemmas.List.Elements.{All-map}
 use Rattle.form_tree.specs.declared.node.Tag.TheVariants as tags
-use Rattle.form_acts.proofs.Counts.{at_place, keys_differ}
+use Rattle.form_drafts.proofs.KeyPlaces.{at_place, keys_differ}
 use Rattle.form_acts.proofs.Groups.{radio_marking, select_marking}
 use Rattle.form_acts.proofs.Marks.{nobody, raised, raised_where}
 use Rattle.form_acts.proofs.Sound.{IsSettledBut, all_where, groups_where, one_radio, same_marks, selectedness_kept, selects_where, tree_where, value_settled, values_where}
 use Rattle.form_acts.proofs.SoundLaws.{sound_but_nobody, sound_from}
-use Rattle.form_acts.specs.Resetting.{after_reset, reset_input, reset_option, reset_textarea, resettables, with_options_reset, with_reset}
+use Rattle.form_drafts.specs.Resetting.{after_reset, reset_input, reset_option, reset_textarea, resettables, with_options_reset, with_reset}
 use Rattle.form_acts.specs.Soundness.{HasSanitisedValue, HasSoundMarks, IsSettled}
-use Rattle.form_acts.specs.Values.{with_value}
+use Rattle.form_changes.specs.Values.{with_value}
 use Rattle.form_page.specs.Settling.{not_selected, off, with_radio, with_selectedness}
 use Rattle.form_tree.proofs.Laws.{KeepsElements, is_option_of_map, keeps_where, key_same, passes_found}
 use Rattle.form_tree.specs.Elements.{is_among, is_input_tag, is_select, is_textarea, is_textarea_tag, passes, same_key}

@@ -10,7 +10,7 @@ use Rattle.form_tree.specs.Attributes.{set_attr}
 use Rattle.form_tree.specs.Tree.{Nodes, empty_state, with_node}
 use Rattle.form_page.specs.Settling.{moved_inputs}
 use Rattle.form_acts.specs.Acts.{after_attr, after_check, after_pick, after_set_selected}
-use Rattle.form_acts.specs.Resetting.{after_reset}
+use Rattle.form_drafts.specs.Resetting.{after_reset}
 
 abbrev pub key : ℕ → Key
 key n = record { 0 = n }

@@ -12,12 +12,12 @@ use Rattle.form_tree.specs.Attributes.{set_attr, with_attr, with_text}
 use Rattle.form_tree.specs.Elements.{is_textarea, passes}
 use Rattle.form_tree.specs.Tree.{IsTree, Nodes, Tree, at_key, with_node, with_state}
 use Rattle.form_page.specs.Page.{Page}
-use Rattle.form_acts.proofs.AttrCounts.{IsOwn}
-use Rattle.form_acts.proofs.DraftLaws.{none_changed, put_changed, same_changed, twice_changed}
-use Rattle.form_acts.proofs.EachLaws.{all_made, numbers_stay, withdraw_once}
-use Rattle.form_acts.specs.Changing.{retold, typed, without_file_number}
-use Rattle.form_acts.specs.Drafts.{Draft, draft_of, with_each}
-use Rattle.form_acts.specs.Values.{has_kept_value}
+use Rattle.form_changes.proofs.AttrCounts.{IsOwn}
+use Rattle.form_drafts.proofs.DraftLaws.{none_changed, put_changed, same_changed, twice_changed}
+use Rattle.form_drafts.proofs.EachLaws.{all_made, numbers_stay, withdraw_once}
+use Rattle.form_changes.specs.Changing.{retold, typed, without_file_number}
+use Rattle.form_drafts.specs.Drafts.{Draft, draft_of, with_each}
+use Rattle.form_changes.specs.Values.{has_kept_value}
 
 -- ---- the text of a user, and values
 

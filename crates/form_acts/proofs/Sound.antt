@@ -9,9 +9,10 @@ use Rattle.form_acts.proofs.Groups.{radio_marking, select_marking}
 use Rattle.form_acts.proofs.Marks.{OneMarkedBut, anybody, fewer, nobody, passed_by, taken}
 use Rattle.form_acts.proofs.Selectedness.{selectedness_settled}
 use Rattle.form_acts.specs.Soundness.{HasSanitisedValue, HasSoundMarks}
-use Rattle.form_acts.specs.Values.{has_kept_value, sanitised_in, with_sanitised_value, with_value}
+use Rattle.form_changes.specs.Values.{has_kept_value, sanitised_in, with_sanitised_value, with_value}
 use Rattle.form_page.specs.Settling.{changed_but, first_enabled, last_selected, not_selected, now_selected, off, with_last, with_radio, with_radios, with_selectedness, with_selection}
-use Rattle.form_acts.proofs.ValueLaws.{sanitised_again}
+use Rattle.form_drafts.proofs.Mild.{changed_where}
+use Rattle.form_changes.proofs.ValueLaws.{sanitised_again}
 use Rattle.form_tree.proofs.Laws.{KeepsElements, keeps_where}
 use Rattle.form_tree.specs.Elements.{is_among, kind_of, passes, same_key}
 use Rattle.form_tree.specs.RadioGroup.{is_checked, share_group}
@@ -29,10 +30,6 @@ pub record IsSettledBut (raw grouped chosen : Key → Bool) (t : Nodes) : Type 0
   pub selects : OneMarkedBut share_select is_selected chosen t
 
 -- ---- what a change keeps
-
--- a change where a test passes
-abbrev pub changed_where : (Node → Bool) → (Node → Node) → Nodes → Nodes
-changed_where test f t = map (λ n. cond (test n) (f n) n) t
 
 pub all_where : (P : Node → Type 0) (test : Node → Bool) (f : Node → Node) → ((n : Node) → P n → P (f n)) → (t : Nodes) → All P t → All P (changed_where test f t)
 all_where P test f each t all =

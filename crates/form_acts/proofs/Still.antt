@@ -15,10 +15,11 @@ use Rattle.form_tree.specs.Selects.{is_selected, share_select}
 use Rattle.form_tree.specs.Tree.{IsTree, NamesDiffer, Nodes, at_key, attr_in, is_key, with_node}
 use Rattle.form_tree.proofs.Laws.{KeepsElements, KeepsOwners, at_key_image, attr_image, attr_other, key_same, names_still_differ, owner_image, passes_found, passes_image, share_select_image}
 use Rattle.form_acts.specs.Soundness.{HasSanitisedValue, HasSoundMarks, IsSettled}
-use Rattle.form_acts.proofs.Counts.{at_place, keys_differ}
+use Rattle.form_drafts.proofs.KeyPlaces.{at_place, keys_differ}
 use Rattle.form_acts.proofs.Marks.{nobody}
 use Rattle.form_acts.proofs.ResetLaws.{value_spared}
-use Rattle.form_acts.proofs.Sound.{IsSettledBut, changed_where, shape_kept}
+use Rattle.form_acts.proofs.Sound.{IsSettledBut, shape_kept}
+use Rattle.form_drafts.proofs.Mild.{changed_where}
 use Rattle.form_acts.proofs.SoundLaws.{sound_but_nobody, sound_from}
 
 pub record IsStill (f : Node → Node) : Type 0 where

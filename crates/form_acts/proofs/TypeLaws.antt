@@ -9,9 +9,9 @@ use Rattle.form_acts.proofs.OneElement.{IsOfOne, one_changed}
 use Rattle.form_acts.proofs.Sound.{one_radio, value_settled}
 use Rattle.form_acts.proofs.Still.{IsStill, agreeing, still_settled}
 use Rattle.form_acts.proofs.SoundLaws.{sound_but_nobody, sound_from}
-use Rattle.form_acts.specs.declared.role.Role.TheVariants as roles
-use Rattle.form_acts.specs.Changing.{changed_attr, changes_state, forgotten, same_kind, value_from_attr, value_to_attr, with_kind, with_mode, with_value_text}
-use Rattle.form_acts.specs.Values.{has_kept_value, is_value_mode, with_value}
+use Rattle.form_changes.specs.declared.role.Role.TheVariants as roles
+use Rattle.form_changes.specs.Changing.{changed_attr, changes_state, forgotten, same_kind, value_from_attr, value_to_attr, with_kind, with_mode, with_value_text}
+use Rattle.form_changes.specs.Values.{has_kept_value, is_value_mode, with_value}
 use Rattle.form_acts.specs.Soundness.{HasSanitisedValue, HasSoundMarks, IsSettled}
 use Rattle.form_acts.specs.Acts.{after_change}
 use Rattle.form_page.specs.Settling.{with_radio}

@@ -1,13 +1,11 @@
 -- What refuses nothing keeps each element within its limits.
-use Rattle.std.proofs.Common.{◌≡◌, ℕ, ◌≤◌, Bool, true, false, not, ◌&&◌, ◌||◌, cond, List, [], ◌∷◌, ◌++◌, map, length, get_or, Option, Some, None, is_some, refl, sym, ap, ◌∙◌, subst, codes, arith}
+use Rattle.std.proofs.Common.{◌≡◌, ℕ, ◌≤◌, Bool, true, false, not, ◌&&◌, ◌||◌, cond, List, [], length, get_or, Option, Some, is_some, refl, sym, ap, ◌∙◌, subst, codes, arith}
 use Rattle.std.specs.Prelude.{nat_lt, unwrap_or}
-use Rattle.std.specs.List.{All, filter, find, list_any}
-use Rattle.std.specs.Option.{option_map}
+use Rattle.std.specs.List.{All}
 use Rattle.std.specs.Str.{bytes_eq}
 use Rattle.std.proofs.lemmas.Bool.{cond_both, or_parts}
 use Rattle.std.proofs.lemmas.Bool.Decides.{nat_tests}
 use Rattle.std.proofs.lemmas.List.Elements.{All-map, All-nil}
-use Rattle.std.proofs.lemmas.List.Folds.{find-append}
 use Rattle.std.proofs.lemmas.Slice.Eq.{bytes_eq-Decides}
 use denote.Enum.Bare.{differs_false, true_same}
 use Rattle.form_types.specs.contracts.kind.Kind.{the_type as Kinds}
@@ -17,17 +15,19 @@ use Rattle.form_types.specs.TypeTable.{mode_of, names_email}
 use Rattle.form_tree.specs.declared.node.Key.{Key}
 use Rattle.form_tree.specs.declared.node.Node.{Node}
 use Rattle.form_tree.specs.declared.node.State.{State}
-use Rattle.form_tree.specs.Attributes.{attrs_with, set_attr}
+use Rattle.form_tree.specs.Attributes.{set_attr}
 use Rattle.form_tree.specs.Elements.{is_empty_text, is_input, kind_of, passes}
-use Rattle.form_tree.specs.Tree.{IsTree, Nodes, attr_in, is_key, is_named, with_node}
+use Rattle.form_tree.specs.Tree.{IsTree, Nodes, attr_in, is_key, with_node}
 use Rattle.form_tree.proofs.Laws.{attr_other}
 use Rattle.form_page.specs.declared.file.File.{File}
-use Rattle.form_acts.specs.declared.role.Role.{Role}
-use Rattle.form_acts.specs.declared.role.Role.TheVariants as roles
-use Rattle.form_acts.specs.Changing.{changed_attr, changes_state, follows_checked, follows_selected, follows_value, given, given_in, is_file_kind, role_of, same_kind, with_checked, with_kind, with_mode, with_selected_as, with_value_text}
-use Rattle.form_acts.specs.Refusals.{is_file, is_file_there, most_attributes}
+use Rattle.form_changes.specs.declared.role.Role.{Role}
+use Rattle.form_changes.specs.declared.role.Role.TheVariants as roles
+use Rattle.form_changes.specs.Changing.{changed_attr, changes_state, follows_checked, follows_selected, follows_value, given, given_in, is_file_kind, role_of, same_kind, with_checked, with_kind, with_mode, with_selected_as, with_value_text}
+use Rattle.form_acts.specs.Refusals.{is_file, is_file_there}
+use Rattle.form_changes.specs.declared.TheConstants.{MOST_ATTRIBUTES}
 use Rattle.form_acts.specs.Soundness.{IsWithin}
 use Rattle.form_acts.proofs.Bounds.{within_like}
+use Rattle.form_changes.proofs.AttrSet.{attr_set}
 use Rattle.form_acts.proofs.Still.{at_key_is, kind_same}
 
 -- ---- the element of a key, of which something is known
@@ -39,58 +39,14 @@ within_at files test f each t tree k holds all =
     go : (n : Node) → (is_key k n ≡ true → test n ≡ true) → IsWithin files n → IsWithin files (cond (is_key k n) (f n) n)
     go n h w = cond_both (is_key k n) (f n) n (IsWithin files) (λ e. each n (h e) w) (λ _. w)
 
--- ---- an attribute is what it was set to
-
-abbrev Attr : Type 0
-Attr = List ℕ × List ℕ
-
-bytes-refl : (s : List ℕ) → bytes_eq s s ≡ true
-bytes-refl s = (bytes_eq-Decides s s).1 refl
-
-gone : (name : List ℕ) (attrs : List Attr) → find (is_named name) (filter (λ attr. not (is_named name attr)) attrs) ≡ None
-gone name [] = refl
-gone name (attr ∷ attrs) = go (gone name attrs) (is_named name attr) refl
-  where
-    go : find (is_named name) (filter (λ attr. not (is_named name attr)) attrs) ≡ None → (b : Bool) → is_named name attr ≡ b → find (is_named name) (cond (not b) (attr ∷ filter (λ attr. not (is_named name attr)) attrs) (filter (λ attr. not (is_named name attr)) attrs)) ≡ None
-    go more true e = more
-    go more false e = rw e more
-
-abbrev put : List ℕ → List ℕ → Attr → Attr
-put name value attr = cond (is_named name attr) (attr.0, value) attr
-
-abbrev value_found : Option Attr → Option (List ℕ)
-value_found o = option_map (λ (attr : Attr). attr.1) o
-
-put_found : (name value : List ℕ) (attrs : List Attr) → list_any (is_named name) attrs ≡ true → value_found (find (is_named name) (map (put name value) attrs)) ≡ Some value
-put_found name value [] h = absurd (cc)
-put_found name value (attr ∷ attrs) h = go (put_found name value attrs) (is_named name attr) refl h
-  where
-    go : (list_any (is_named name) attrs ≡ true → value_found (find (is_named name) (map (put name value) attrs)) ≡ Some value) → (b : Bool) → is_named name attr ≡ b → (b || list_any (is_named name) attrs) ≡ true → value_found (find (is_named name) (cond b (attr.0, value) attr ∷ map (put name value) attrs)) ≡ Some value
-    go more true e any = let here : bytes_eq attr.0 name ≡ true = e in rw here refl
-    go more false e any = rw e (more any)
-
-none_found : (name : List ℕ) (attrs : List Attr) → list_any (is_named name) attrs ≡ false → find (is_named name) attrs ≡ None
-none_found name [] h = refl
-none_found name (attr ∷ attrs) h =
-    let parts = or_parts (is_named name attr) (list_any (is_named name) attrs) h in
-    rw parts.0 (none_found name attrs parts.1)
-
-pub attr_set : (name : List ℕ) (value : Option (List ℕ)) (attrs : List Attr) → attr_in (attrs_with attrs name value) name ≡ value
-attr_set name None attrs = ap value_found (gone name attrs)
-attr_set name (Some value) attrs = go (list_any (is_named name) attrs) refl
-  where
-    go : (b : Bool) → list_any (is_named name) attrs ≡ b → value_found (find (is_named name) (cond b (map (put name value) attrs) (attrs ++ (name, value) ∷ []))) ≡ Some value
-    go true e = put_found name value attrs e
-    go false e = ap value_found (find-append (is_named name) attrs ((name, value) ∷ [])) ∙ rw (none_found name attrs e, bytes-refl name) refl
-
 -- ---- an attribute set
 
-no_more : (n : ℕ) → nat_lt most_attributes n ≡ false → n ≤ most_attributes
+no_more : (n : ℕ) → nat_lt MOST_ATTRIBUTES n ≡ false → n ≤ MOST_ATTRIBUTES
 no_more n h = grind (arith, nat_tests)
 
 module _ (files : List File) where
   -- an attribute that is not `type`
-  attr_within : (name : List ℕ) → bytes_eq name (codes "type") ≡ false → (value : Option (List ℕ)) (n : Node) → length (set_attr name value n).attrs ≤ most_attributes → IsWithin files n → IsWithin files (set_attr name value n)
+  attr_within : (name : List ℕ) → bytes_eq name (codes "type") ≡ false → (value : Option (List ℕ)) (n : Node) → length (set_attr name value n).attrs ≤ MOST_ATTRIBUTES → IsWithin files n → IsWithin files (set_attr name value n)
   attr_within name apart value n few h = record {
     attributes = few;
     email = λ e. ap names_email (attr_other name (codes "type") value apart n.attrs) ∙ h.email e;
@@ -98,16 +54,16 @@ module _ (files : List File) where
     there = h.there;
   }
 
-  pub given_within : (text : List ℕ) (n : Node) → nat_lt most_attributes (length (given text n).attrs) ≡ false → IsWithin files n → IsWithin files (given text n)
+  pub given_within : (text : List ℕ) (n : Node) → nat_lt MOST_ATTRIBUTES (length (given text n).attrs) ≡ false → IsWithin files n → IsWithin files (given text n)
   given_within text n few h = go (is_input n) refl few
     where
-      in_mode : (m : Mode) → nat_lt most_attributes (length (given_in m text n).attrs) ≡ false → IsWithin files (given_in m text n)
+      in_mode : (m : Mode) → nat_lt MOST_ATTRIBUTES (length (given_in m text n).attrs) ≡ false → IsWithin files (given_in m text n)
       in_mode modes.Value l = within_like files n _ refl refl refl h
       in_mode modes.Default l = attr_within (codes "value") refl (Some text) n (no_more _ l) h
       in_mode modes.DefaultOn l = attr_within (codes "value") refl (Some text) n (no_more _ l) h
       in_mode modes.Filename l = record { attributes = h.attributes; email = h.email; chosen = λ e. refl; there = All-nil (λ number. is_file_there files number ≡ true) }
 
-      go : (b : Bool) → is_input n ≡ b → nat_lt most_attributes (length (cond b (given_in (mode_of (kind_of n)) text n) (record n { state = record n.state { value = text; dirty = true; by_user = false; typed = [] } })).attrs) ≡ false → IsWithin files (cond b (given_in (mode_of (kind_of n)) text n) (record n { state = record n.state { value = text; dirty = true; by_user = false; typed = [] } }))
+      go : (b : Bool) → is_input n ≡ b → nat_lt MOST_ATTRIBUTES (length (cond b (given_in (mode_of (kind_of n)) text n) (record n { state = record n.state { value = text; dirty = true; by_user = false; typed = [] } })).attrs) ≡ false → IsWithin files (cond b (given_in (mode_of (kind_of n)) text n) (record n { state = record n.state { value = text; dirty = true; by_user = false; typed = [] } }))
       go true e l = in_mode (mode_of (kind_of n)) l
       go false e l = within_like files n _ refl refl refl h
 
@@ -163,7 +119,7 @@ module _ (files : List File) (value : Option (List ℕ)) (n : Node) (h : IsWithi
       no_and true = refl
       no_and false = refl
 
-  type_within : (is_input n ≡ true → names_email value ≡ false) → length (changed_attr roles.Type (codes "type") value n).attrs ≤ most_attributes → IsWithin files (changed_attr roles.Type (codes "type") value n)
+  type_within : (is_input n ≡ true → names_email value ≡ false) → length (changed_attr roles.Type (codes "type") value n).attrs ≤ MOST_ATTRIBUTES → IsWithin files (changed_attr roles.Type (codes "type") value n)
   type_within email few = go (changes_state (codes "type") value n) refl few
     where
       moved : Node
@@ -182,7 +138,7 @@ module _ (files : List File) (value : Option (List ℕ)) (n : Node) (h : IsWithi
       leaves : Bool
       leaves = is_file_kind (kind_of n) || is_file_kind (kind_of retyped)
 
-      go : (b : Bool) → changes_state (codes "type") value n ≡ b → length (cond b (with_kind (kind_of n) (kind_of retyped) retyped) retyped).attrs ≤ most_attributes → IsWithin files (cond b (with_kind (kind_of n) (kind_of retyped) retyped) retyped)
+      go : (b : Bool) → changes_state (codes "type") value n ≡ b → length (cond b (with_kind (kind_of n) (kind_of retyped) retyped) retyped).attrs ≤ MOST_ATTRIBUTES → IsWithin files (cond b (with_kind (kind_of n) (kind_of retyped) retyped) retyped)
       go true e l = record {
         attributes = l;
         email = moved_email;
@@ -197,18 +153,18 @@ module _ (files : List File) (value : Option (List ℕ)) (n : Node) (h : IsWithi
 
 module _ (files : List File) where
   -- an attribute of any role, where its name is not `type`
-  other_within : (role : Role) (name : List ℕ) → bytes_eq name (codes "type") ≡ false → (value : Option (List ℕ)) (n : Node) → changes_state name value n ≡ false → IsWithin files n → length (changed_attr role name value n).attrs ≤ most_attributes → IsWithin files (changed_attr role name value n)
+  other_within : (role : Role) (name : List ℕ) → bytes_eq name (codes "type") ≡ false → (value : Option (List ℕ)) (n : Node) → changes_state name value n ≡ false → IsWithin files n → length (changed_attr role name value n).attrs ≤ MOST_ATTRIBUTES → IsWithin files (changed_attr role name value n)
   other_within role name apart value n stays h few = by_role role few
     where
       m : Node
       m = set_attr name value n
 
       -- where a state follows, it is one of the node with the attribute
-      either : (b : Bool) (x : Node) → x.tag ≡ m.tag → x.attrs ≡ m.attrs → x.state.files ≡ m.state.files → length (cond b x m).attrs ≤ most_attributes → IsWithin files (cond b x m)
-      either true x tag attrs chosen l = within_like files m x tag attrs chosen (attr_within files name apart value n (subst (λ (a : List Attr). length a ≤ most_attributes) attrs l) h)
+      either : (b : Bool) (x : Node) → x.tag ≡ m.tag → x.attrs ≡ m.attrs → x.state.files ≡ m.state.files → length (cond b x m).attrs ≤ MOST_ATTRIBUTES → IsWithin files (cond b x m)
+      either true x tag attrs chosen l = within_like files m x tag attrs chosen (attr_within files name apart value n (subst (λ (a : List (List ℕ × List ℕ)). length a ≤ MOST_ATTRIBUTES) attrs l) h)
       either false x tag attrs chosen l = attr_within files name apart value n l h
 
-      by_role : (r : Role) → length (changed_attr r name value n).attrs ≤ most_attributes → IsWithin files (changed_attr r name value n)
+      by_role : (r : Role) → length (changed_attr r name value n).attrs ≤ MOST_ATTRIBUTES → IsWithin files (changed_attr r name value n)
       by_role roles.Type l = rw stays (attr_within files name apart value n (rw stays at l) h)
       by_role roles.Value l = either (follows_value n) (with_value_text (unwrap_or value []) m) refl refl refl l
       by_role roles.Checked l = either (follows_checked (is_some value) n) (with_checked (is_some value) m) refl refl refl l
@@ -220,14 +176,14 @@ module _ (files : List File) where
       by_role roles.Plain l = attr_within files name apart value n l h
 
   -- the change of any attribute that is not refused
-  pub attr_change_within : (name : List ℕ) (value : Option (List ℕ)) (n : Node) → (is_input n && (bytes_eq name (codes "type") && names_email value)) ≡ false → nat_lt most_attributes (length (changed_attr (role_of name) name value n).attrs) ≡ false → IsWithin files n → IsWithin files (changed_attr (role_of name) name value n)
+  pub attr_change_within : (name : List ℕ) (value : Option (List ℕ)) (n : Node) → (is_input n && (bytes_eq name (codes "type") && names_email value)) ≡ false → nat_lt MOST_ATTRIBUTES (length (changed_attr (role_of name) name value n).attrs) ≡ false → IsWithin files n → IsWithin files (changed_attr (role_of name) name value n)
   attr_change_within name value n email few h = go (bytes_eq name (codes "type")) refl
     where
       is_type : name ≡ codes "type" → IsWithin files (changed_attr (role_of name) name value n)
       is_type same =
           subst (λ (x : List ℕ). IsWithin files (changed_attr (role_of x) x value n)) (sym same)
           (type_within files value n h (λ input. no_email input (subst (λ (x : List ℕ). (is_input n && (bytes_eq x (codes "type") && names_email value)) ≡ false) same email))
-          (no_more _ (subst (λ (x : List ℕ). nat_lt most_attributes (length (changed_attr (role_of x) x value n).attrs) ≡ false) same few)))
+          (no_more _ (subst (λ (x : List ℕ). nat_lt MOST_ATTRIBUTES (length (changed_attr (role_of x) x value n).attrs) ≡ false) same few)))
         where
           no_email : is_input n ≡ true → (is_input n && (true && names_email value)) ≡ false → names_email value ≡ false
           no_email input g = rw input at g

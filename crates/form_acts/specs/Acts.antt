@@ -7,18 +7,21 @@ use Rattle.form_tree.specs.Elements.{has_attr, passes}
 use Rattle.form_tree.specs.Selects.{is_multiple, is_selected, select_of}
 use Rattle.form_tree.specs.Tree.{Nodes, with_node}
 use Rattle.form_page.specs.declared.file.File.{File}
+use Rattle.form_page.specs.declared.edit.Edit.{Edit}
+use Rattle.form_page.specs.declared.edit.Edit.TheVariants.{Gone}
 use Rattle.form_page.specs.Editing.{without_file}
 use Rattle.form_page.specs.Page.{Page}
-use Rattle.form_page.specs.Settling.{moved_inputs, with_radio, with_radios, with_selection, with_selectedness}
-use Rattle.form_acts.specs.declared.act.Act.{Act}
-use Rattle.form_acts.specs.declared.act.Act.TheVariants as acts
-use Rattle.form_acts.specs.declared.act.ActFault.{ActFault}
-use Rattle.form_acts.specs.declared.role.Role.{Role}
-use Rattle.form_acts.specs.declared.role.Role.TheVariants as roles
-use Rattle.form_acts.specs.Changing.{changed_attr, changes_state, chosen, follows_checked, follows_selected, follows_value, given, retold, role_of, set_checked, set_selected, typed, with_message, without_file_number}
+use Rattle.form_page.specs.Settling.{moved_inputs, with_radio, with_radios, with_selectedness}
+use Rattle.form_changes.specs.declared.act.Act.{Act}
+use Rattle.form_changes.specs.declared.act.Act.TheVariants as acts
+use Rattle.form_changes.specs.declared.act.ActFault.{ActFault}
+use Rattle.form_changes.specs.declared.role.Role.{Role}
+use Rattle.form_changes.specs.declared.role.Role.TheVariants as roles
+use Rattle.form_changes.specs.Changing.{changed_attr, changes_state, chosen, follows_checked, follows_selected, follows_value, given, retold, role_of, set_checked, set_selected, typed, with_message, without_file_number}
 use Rattle.form_acts.specs.Refusals.{refusal_of}
-use Rattle.form_acts.specs.Resetting.{after_reset}
-use Rattle.form_acts.specs.Values.{is_range, with_value}
+use Rattle.form_drafts.specs.Drafts.{with_select_of, with_selected}
+use Rattle.form_drafts.specs.Resetting.{after_reset}
+use Rattle.form_changes.specs.Values.{is_range, with_value}
 
 -- ---- one element alone
 
@@ -50,15 +53,6 @@ if_on on k = if on then k ∷ [] else []
 -- state")
 abbrev pub after_check : Nodes → Key → Bool → Nodes
 after_check ns k on = with_radios (with_node ns k (set_checked on)) (if_on on k)
-
--- of the options of a select that is not `multiple` the one that was selected alone (HTML, "The
--- select element")
-abbrev pub with_selected : Nodes → Key → Bool → Nodes
-with_selected ns k on = if on then with_selection ns k else ns
-
--- the selectedness setting algorithm for the select of an option
-abbrev pub with_select_of : Nodes → Key → Nodes
-with_select_of ns k = option_map_or (with_selectedness ns) (select_of ns k) ns
 
 -- whether the user's choice selects the option: it is toggled in a `multiple` select
 abbrev pub is_picked : Nodes → Key → Bool
@@ -132,6 +126,11 @@ nodes_after_act ns (acts.Reset k) = after_reset ns k
 abbrev pub files_after_act : List File → Act → List File
 files_after_act files (acts.Withdraw file) = without_file files file
 files_after_act files act = files
+
+-- the raw change of the files that an act makes
+abbrev pub gone_of : Act → List Edit
+gone_of (acts.Withdraw file) = Gone file ∷ []
+gone_of act = []
 
 -- the page after an act that nothing refuses
 abbrev pub after_act : Page → Act → Page

@@ -13,8 +13,8 @@ use Rattle.form_tree.specs.Elements.{button_kind_of, is_button, is_input, kind_o
 use Rattle.form_tree.specs.Ownership.{owner_of}
 use Rattle.form_tree.specs.Tree.{Nodes, at_key}
 use Rattle.form_page.specs.Invalid.{is_owned_by}
-use Rattle.form_acts.specs.declared.act.ActFault.{ActFault}
-use Rattle.form_acts.specs.declared.act.ActFault.TheVariants as faults
+use Rattle.form_changes.specs.declared.act.ActFault.{ActFault}
+use Rattle.form_changes.specs.declared.act.ActFault.TheVariants as faults
 use Rattle.form_acts.specs.declared.clicked.Clicked.{Clicked}
 use Rattle.form_acts.specs.declared.clicked.Clicked.TheVariants as clicks
 

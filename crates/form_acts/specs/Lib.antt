@@ -1,9 +1,5 @@
 pub mod Acts
-pub mod Changing
 pub mod Clicking
-pub mod Counting
-pub mod Drafts
+pub mod Nearness
 pub mod Refusals
-pub mod Resetting
 pub mod Soundness
-pub mod Values

@@ -15,12 +15,13 @@ use Rattle.form_tree.specs.Selects.{is_disabled_option, select_of}
 use Rattle.form_tree.specs.Tree.{Nodes, at_key}
 use Rattle.form_page.specs.declared.file.File.{File}
 use Rattle.form_page.specs.Page.{Page, name_of_file}
-use Rattle.form_acts.specs.declared.act.Act.{Act}
-use Rattle.form_acts.specs.declared.act.Act.TheVariants as acts
-use Rattle.form_acts.specs.declared.act.ActFault.{ActFault}
-use Rattle.form_acts.specs.declared.act.ActFault.TheVariants as faults
-use Rattle.form_acts.specs.Changing.{changed_attr, given, is_file_kind, role_of}
-use Rattle.form_acts.specs.Values.{has_kept_value}
+use Rattle.form_changes.specs.declared.act.Act.{Act}
+use Rattle.form_changes.specs.declared.act.Act.TheVariants as acts
+use Rattle.form_changes.specs.declared.act.ActFault.{ActFault}
+use Rattle.form_changes.specs.declared.act.ActFault.TheVariants as faults
+use Rattle.form_changes.specs.declared.TheConstants.{MOST_ATTRIBUTES}
+use Rattle.form_changes.specs.Changing.{changed_attr, given, is_file_kind, role_of}
+use Rattle.form_changes.specs.Values.{has_kept_value}
 
 -- ---- what an element is
 
@@ -39,10 +40,6 @@ is_checkbox n = is_input n && is_checkbox_kind (kind_of n)
 -- the file of that number is there
 abbrev pub is_file_there : List File → ℕ → Bool
 is_file_there files number = is_some (name_of_file files number)
-
--- the most attributes that an element may have
-abbrev pub most_attributes : ℕ
-most_attributes = 64
 
 -- ---- the causes
 
@@ -98,8 +95,8 @@ lacks_file files act = false
 -- the element would have too many attributes, or too many files
 abbrev pub is_beyond : Act → Node → Bool
 is_beyond (acts.Attr k name value) n =
-    nat_lt most_attributes (length (changed_attr (role_of name) name value n).attrs)
-is_beyond (acts.Set k text) n = nat_lt most_attributes (length (given text n).attrs)
+    nat_lt MOST_ATTRIBUTES (length (changed_attr (role_of name) name value n).attrs)
+is_beyond (acts.Set k text) n = nat_lt MOST_ATTRIBUTES (length (given text n).attrs)
 is_beyond (acts.Choose k numbers) n = nat_lt 1 (length numbers) && not (has_attr (codes "multiple") n)
 is_beyond act n = false
 

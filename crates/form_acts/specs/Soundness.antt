@@ -12,8 +12,9 @@ use Rattle.form_tree.specs.Selects.{is_multiple, is_selected, options}
 use Rattle.form_tree.specs.Tree.{Nodes, IsTree, IsTreeOfRaws, attr_in, nodes_of_raws}
 use Rattle.form_page.specs.declared.file.File.{File}
 use Rattle.form_page.specs.Page.{Page}
-use Rattle.form_acts.specs.Refusals.{is_file, is_file_there, most_attributes}
-use Rattle.form_acts.specs.Values.{has_kept_value, sanitised_in}
+use Rattle.form_acts.specs.Refusals.{is_file, is_file_there}
+use Rattle.form_changes.specs.declared.TheConstants.{MOST_ATTRIBUTES}
+use Rattle.form_changes.specs.Values.{has_kept_value, sanitised_in}
 
 -- ---- what follows from acts
 
@@ -54,7 +55,7 @@ most_depth = 256
 -- What a page says of one element: it has no more attributes than it may, is no input of the type
 -- email, and has files only where it is a file input, each of which is there.
 pub record IsWithin (files : List File) (n : Node) : Type 0 where
-  pub attributes : length n.attrs ≤ most_attributes
+  pub attributes : length n.attrs ≤ MOST_ATTRIBUTES
   pub email : is_input n ≡ true → names_email (attr_in n.attrs (codes "type")) ≡ false
   pub chosen : is_file n ≡ false → n.state.files ≡ []
   pub there : All (λ number. is_file_there files number ≡ true) n.state.files
@@ -71,7 +72,7 @@ pub record IsSound (page : Page) : Type 0 where
 
 -- an element that is read has no more attributes than it may have, and is no input of the type email
 pub record IsAllowed (raw : Raw) : Type 0 where
-  pub attributes : length raw.attrs ≤ most_attributes
+  pub attributes : length raw.attrs ≤ MOST_ATTRIBUTES
   pub email : is_input_tag raw.tag ≡ true → names_email (attr_in raw.attrs (codes "type")) ≡ false
 
 -- The elements are a tree, no more of them and no deeper than they may be, and each is allowed.

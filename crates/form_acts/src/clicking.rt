@@ -3,9 +3,10 @@ ghost use Rattle.std.specs.Prelude.{◌≡◌, ◌&&◌, nat_le, not};
 ghost use Rattle.form_page.specs.Invalid.{is_owned_by};
 ghost use Rattle.form_acts.specs.Clicking.{activation, blocking_count, click_of, default_button, implicit_by, implicit_of, is_blocking, is_submitter, place_or_origin, takes_click};
 
-use crate::act::ActFault;
 use crate::clicked::Clicked;
 use crate::elements::{is_any_button, is_blocking, is_image, is_resetter, is_submitter};
+use form_changes::ActFault;
+use form_drafts::is_owned_by;
 use form_page::Page;
 use form_tree::{Key, Node};
 
@@ -151,14 +152,4 @@ fn is_blocking_in(page: &Page, form: Key, node: &Node) -> bool
     ensures { result ≡ (is_blocking node.now && is_owned_by page.now.tree.nodes form node.now) }
 {
     is_blocking(node) && is_owned_by(page, form, node)
-}
-
-/// Whether the form owns the element.
-pub fn is_owned_by(page: &Page, form: Key, node: &Node) -> bool
-    ensures { result ≡ is_owned_by page.now.tree.nodes form node.now }
-{
-    match page.owner(node.key) {
-        Some(owner) => form.0 == owner.0,
-        None => false,
-    }
 }

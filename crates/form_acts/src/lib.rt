@@ -2,26 +2,22 @@
 //! from them by the standard, and what a click or the enter key asks for.
 #![tactic(auto)]
 
-mod act;
 mod applying;
 mod attributes;
 mod clicked;
 mod clicking;
-mod counting;
-mod draft;
 mod elements;
 mod marking;
-mod options;
-mod radios;
+mod option_attributes;
+mod radio_attributes;
 mod refusals;
-mod resetting;
-mod role;
 mod single;
-mod states;
-mod values;
+mod type_attribute;
+mod value_attributes;
 
-pub use act::{Act, ActFault};
 pub use applying::apply;
 pub use clicked::Clicked;
 pub use clicking::{click, implicit};
-pub use role::{Role, role_of};
+pub use elements::is_submitter;
+pub use form_changes::{Act, ActFault, Role, role_of};
+pub use form_drafts::is_owned_by;

@@ -1,17 +1,14 @@
 // The acts on checkedness and selectedness.
-ghost use Rattle.std.specs.Prelude.{◌≡◌, IfOk, OnOk, false};
+ghost use Rattle.std.specs.Prelude.{◌≡◌, IfOk, false};
 ghost use Rattle.std.specs.Option.{option_map_or};
 ghost use Rattle.form_tree.specs.Selects.{is_multiple, select_of};
-ghost use Rattle.form_tree.specs.Tree.{with_node};
 ghost use Rattle.form_acts.specs.Acts.{after_check, after_pick, after_set_selected, is_picked};
-ghost use Rattle.form_acts.specs.Changing.{set_checked, set_selected};
-ghost use Rattle.form_acts.specs.Drafts.{draft_of};
+ghost use Rattle.form_drafts.specs.Drafts.{draft_of};
 
-use crate::draft::Draft;
-use crate::elements::{is_multiple, select_of};
-use crate::options::{is_selected_at, settle_select_of, take_selected};
-use crate::radios::take_radio;
-use crate::states;
+use form_drafts::{
+    Draft, is_multiple, is_selected_at, select_of, set_checked, set_selected, settle_select_of,
+    take_radio, take_selected,
+};
 use form_page::Page;
 use form_tree::{Key, Tree};
 use std::alloc::{AllocError, Global};
@@ -27,16 +24,6 @@ pub fn check<'a>(alloc: Global, page: &'a Page, key: Key, on: bool) -> Result<Dr
     }
     take_radio(alloc, &mut draft, key)?;
     Ok(draft)
-}
-
-fn set_checked(draft: &mut Draft<'_>, key: Key, on: bool) -> Result<(), AllocError>
-    ensures { OnOk result (draft.new ≡ record draft.old { nodes = with_node draft.old.nodes key (set_checked on) }) }
-{
-    let Some(node) = draft.node(key) else {
-        return Ok(());
-    };
-    let state = states::set_checked(node, on)?;
-    draft.put(key, state)
 }
 
 /// The user's choice of an option.
@@ -83,14 +70,4 @@ pub fn set_selectedness<'a>(
     take_selected(alloc, &mut draft, key, on)?;
     settle_select_of(alloc, &mut draft, key)?;
     Ok(draft)
-}
-
-fn set_selected(draft: &mut Draft<'_>, key: Key, on: bool) -> Result<(), AllocError>
-    ensures { OnOk result (draft.new ≡ record draft.old { nodes = with_node draft.old.nodes key (set_selected on) }) }
-{
-    let Some(node) = draft.node(key) else {
-        return Ok(());
-    };
-    let state = states::set_selected(node, on)?;
-    draft.put(key, state)
 }

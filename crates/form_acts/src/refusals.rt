@@ -10,12 +10,11 @@ ghost use Rattle.form_tree.specs.Selects.{is_disabled_option, select_of};
 ghost use Rattle.form_tree.specs.Tree.{at_key};
 ghost use Rattle.form_acts.specs.Refusals.{is_beyond, is_checkbox, is_file, is_file_there, is_immutable, is_of_kind, key_of, lacks_file, makes_email, refusal_at, refusal_by, refusal_found, refusal_of};
 
-use crate::act::{Act, ActFault};
-use crate::counting::{is_beyond_by_attr, is_beyond_by_text};
-use crate::elements::{
-    has_kept_value, is_checkbox, is_disabled_option, is_file, is_input, is_radio, is_read_only,
-    is_textarea, select_of,
+use crate::elements::{is_checkbox, is_file, is_read_only};
+use form_changes::{
+    Act, ActFault, has_kept_value, is_beyond_by_attr, is_beyond_by_text, is_input, is_textarea,
 };
+use form_drafts::{is_disabled_option, is_radio, select_of};
 use form_page::Page;
 use form_text::{Text, eq_ascii_case};
 use form_tree::{Key, Node};

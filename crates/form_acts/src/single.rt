@@ -4,13 +4,14 @@ ghost use Rattle.std.specs.List.{list_any};
 ghost use Rattle.form_tree.specs.Elements.{is_textarea};
 ghost use Rattle.form_tree.specs.Tree.{with_node};
 ghost use Rattle.form_acts.specs.Acts.{after_choose, after_custom, after_set, after_text, after_user, after_withdraw};
-ghost use Rattle.form_acts.specs.Changing.{without_file_number};
-ghost use Rattle.form_acts.specs.Drafts.{draft_of};
+ghost use Rattle.form_changes.specs.Changing.{without_file_number};
+ghost use Rattle.form_drafts.specs.Drafts.{draft_of};
 
-use crate::counting::is_given_by_attr;
-use crate::draft::Draft;
-use crate::elements::is_textarea;
-use crate::states::{chosen, given, typed, with_message, with_value_text, without_file_number};
+use form_changes::{
+    chosen, given, is_given_by_attr, is_textarea, typed, with_message, with_value_text,
+    without_file_number,
+};
+use form_drafts::Draft;
 use form_page::Page;
 use form_text::{Sequence, Text};
 use form_tree::{Key, Node};

@@ -2,7 +2,7 @@
 use Rattle.std.proofs.Common.{◌≡◌, ℕ, ◌≤◌, Bool, true, false, List, [], ◌∷◌, ◌++◌, length, Option, Some, None, Result, Ok, Err, IfOk, is_some, inl, inr, ◌⊎◌, refl, sym, ap, subst, ◌∙◌, arith, append-nil, nat_le, nat_lt, if◌then◌else◌}
 use Rattle.std.specs.List.{count_by, list_all}
 use Rattle.std.proofs.lemmas.Bool.Decides.{nat_tests}
-use Rattle.form_acts.specs.declared.act.Act.TheVariants as acts
+use Rattle.form_changes.specs.declared.act.Act.TheVariants as acts
 use Rattle.form_tree.specs.declared.node.Key.{Key}
 use Rattle.form_script.specs.Gives.{Gives}
 use Rattle.form_script.specs.LineReading.{all_of, boundaries_of, choice_by, command_of, is_space, pair_at, parts_of, positives_of, submission_by, verb_of, words_of}

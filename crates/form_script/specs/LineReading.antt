@@ -2,7 +2,7 @@
 use Rattle.std.specs.List.{count_by}
 use Rattle.std.specs.Prelude.{Bool, List, None, Option, Some, [], if◌then◌else◌, length, nat_le, nat_lt, ℕ, ◌==◌, ◌∷◌}
 use Rattle.std.specs.Str.{bytes_eq}
-use Rattle.form_acts.specs.declared.act.Act.TheVariants as acts
+use Rattle.form_changes.specs.declared.act.Act.TheVariants as acts
 use Rattle.form_text.specs.Bytes.{space}
 use Rattle.form_tree.specs.declared.node.Key.{Key}
 use Rattle.form_script.specs.Lines.{key_command, longest_line, mark_command, most_boundaries, text_command, verb_text}

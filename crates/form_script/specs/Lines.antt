@@ -1,6 +1,6 @@
 -- Which command a line of a script spells.
 use Rattle.std.specs.Prelude.{Bool, List, None, Option, Some, [], codes, false, length, true, ℕ, ◌++◌, ◌∷◌, ◌≡◌, ◌≤◌, ◌⊎◌}
-use Rattle.form_acts.specs.declared.act.Act.TheVariants as acts
+use Rattle.form_changes.specs.declared.act.Act.TheVariants as acts
 use Rattle.form_text.specs.Bytes.{space}
 use Rattle.form_tree.specs.declared.node.Key.{Key}
 use Rattle.form_script.specs.Quoted.{IsQuoted}

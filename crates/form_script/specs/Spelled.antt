@@ -1,7 +1,7 @@
 -- A line whose texts are still as they are spelled, and its command.
 use Rattle.std.specs.Char.{to_ascii_lowercase}
 use Rattle.std.specs.Prelude.{Bool, List, None, Option, Some, [], is_some, map, ℕ}
-use Rattle.form_acts.specs.declared.act.Act.TheVariants as acts
+use Rattle.form_changes.specs.declared.act.Act.TheVariants as acts
 use Rattle.form_tree.specs.declared.node.Key.{Key}
 use Rattle.form_script.specs.LineReading.{boundaries_of, positives_of}
 use Rattle.form_script.specs.Lines.{key_command, mark_command, text_command}

@@ -1,4 +1,4 @@
-use form_acts::Act;
+use form_changes::Act;
 use form_text::{Sequence, Text};
 use form_tree::Key;
 

@@ -3,7 +3,7 @@ ghost use Rattle.std.specs.Prelude.{◌≡◌, Err, IfOk, Some};
 ghost use Rattle.form_script.specs.Gives.{Gives};
 ghost use Rattle.form_script.specs.Lines.{Spells, key_command, mark_command, text_command};
 ghost use Rattle.form_script.specs.Spelled.{attr_in, command_in, unattr_in};
-ghost use Rattle.form_acts.specs.declared.act.Act.TheVariants as acts;
+ghost use Rattle.form_changes.specs.declared.act.Act.TheVariants as acts;
 ghost use Rattle.form_script.specs.declared.command.Command.TheVariants as commands;
 ghost use Rattle.form_script.specs.declared.fault.LineFault.TheVariants.{Syntax};
 
@@ -13,7 +13,7 @@ use crate::line::{Spelled, read_line};
 use crate::lists::{boundaries_of, positives_of};
 use crate::literal::text_of;
 use crate::verb::{KeyVerb, MarkVerb, TextVerb};
-use form_acts::Act;
+use form_changes::Act;
 use form_text::{Sequence, Text};
 use form_tree::Key;
 use std::alloc::Global;

@@ -1,4 +1,4 @@
-use Rattle.form_acts.proofs.LikeLaws.{checked_next}
+use Rattle.form_drafts.proofs.LikeLaws.{checked_next}
 use Rattle.form_acts.proofs.marking.check.Goals as goal
 
 pub take_radio-requires : goal.take_radio-requires

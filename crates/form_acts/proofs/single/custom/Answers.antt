@@ -1,5 +1,5 @@
 use Rattle.std.proofs.Common.{refl}
-use Rattle.form_acts.specs.Changing.{with_message}
+use Rattle.form_changes.specs.Changing.{with_message}
 use Rattle.form_acts.proofs.SingleLaws.{act_nowhere, act_put, own_made}
 use Rattle.form_acts.proofs.single.custom.Goals as goal
 

@@ -2,8 +2,8 @@ use Rattle.std.specs.List.{list_any}
 use Rattle.std.proofs.Common.{ℕ, List, ◌==◌, ap, ◌∙◌}
 use Rattle.form_tree.specs.declared.node.Node.{Node}
 use Rattle.form_tree.specs.declared.node.State.{State}
-use Rattle.form_acts.specs.Changing.{without_file_number}
-use Rattle.form_acts.proofs.DraftLaws.{none_made, put_made, still_made}
+use Rattle.form_changes.specs.Changing.{without_file_number}
+use Rattle.form_drafts.proofs.DraftLaws.{none_made, put_made, still_made}
 use Rattle.form_acts.proofs.SingleLaws.{file_stays}
 use Rattle.form_acts.proofs.single.leave.Goals as goal
 

@@ -2,8 +2,8 @@ use Rattle.std.proofs.Common.{ℕ, List, ap, ◌∙◌}
 use Rattle.form_tree.specs.declared.node.State.{State}
 use Rattle.form_tree.specs.Attributes.{with_text}
 use Rattle.form_acts.proofs.SingleLaws.{act_nowhere, act_text, act_text_put, retold_put, retold_still}
-use Rattle.form_acts.specs.Changing.{retold}
-use Rattle.form_acts.specs.Drafts.{Draft}
+use Rattle.form_changes.specs.Changing.{retold}
+use Rattle.form_drafts.specs.Drafts.{Draft}
 use Rattle.form_acts.proofs.single.retell.Goals as goal
 
 pub returns-in_default : goal.returns-in_default

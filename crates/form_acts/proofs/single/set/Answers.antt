@@ -1,8 +1,8 @@
 use Rattle.std.proofs.Common.{ℕ, List, Some, ap₂, sym, ◌∙◌}
 use Rattle.form_tree.specs.Attributes.{set_attr}
-use Rattle.form_acts.proofs.AttrCounts.{given_attrs, given_state}
+use Rattle.form_changes.proofs.AttrCounts.{given_attrs, given_state}
 use Rattle.form_acts.proofs.SingleLaws.{act_attr, act_nowhere, act_put, own_made}
-use Rattle.form_acts.specs.Changing.{given}
+use Rattle.form_changes.specs.Changing.{given}
 use Rattle.form_acts.proofs.single.set.Goals as goal
 
 pub returns-in_default : goal.returns-in_default

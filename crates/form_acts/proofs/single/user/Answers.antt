@@ -1,4 +1,4 @@
-use Rattle.form_acts.specs.Changing.{typed}
+use Rattle.form_changes.specs.Changing.{typed}
 use Rattle.form_acts.proofs.SingleLaws.{act_nowhere, act_put, own_made, typed_own}
 use Rattle.form_acts.proofs.single.user.Goals as goal
 

@@ -1,6 +1,6 @@
 use Rattle.std.proofs.Common.{◌≡◌, drop, map}
-use Rattle.form_acts.specs.Changing.{without_file_number}
-use Rattle.form_acts.specs.Drafts.{draft_of, with_each}
+use Rattle.form_changes.specs.Changing.{without_file_number}
+use Rattle.form_drafts.specs.Drafts.{draft_of, with_each}
 use Rattle.form_acts.proofs.single.withdraw.Given as goal
 
 -- the elements that are left make of those so far what all make of those of the page

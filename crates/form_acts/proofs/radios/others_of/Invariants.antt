@@ -1,7 +1,0 @@
-use Rattle.std.proofs.Common.{◌≡◌, ◌++◌, drop}
-use Rattle.form_acts.specs.Drafts.{keys_but}
-use Rattle.form_acts.proofs.radios.others_of.Given as goal
-
--- the other keys so far, and those that are left
-abbrev pub invariant-loop-other : goal.invariant-loop-other
-invariant-loop-other l = l.others.items ++ keys_but l.key (drop l.other-index l.keys) ≡ keys_but l.key l.keys

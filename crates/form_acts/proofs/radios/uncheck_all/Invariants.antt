@@ -1,8 +1,0 @@
-use Rattle.std.proofs.Common.{◌≡◌, drop}
-use Rattle.form_page.specs.Settling.{off}
-use Rattle.form_acts.specs.Drafts.{with_each}
-use Rattle.form_acts.proofs.radios.uncheck_all.Given as goal
-
--- the keys that are left make of the elements so far what all make of the old ones
-abbrev pub invariant-loop-key : goal.invariant-loop-key
-invariant-loop-key l = record l.draft { nodes = with_each off l.draft.nodes (drop l.key-index l.keys) } ≡ record l.fn.draft { nodes = with_each off l.fn.draft.nodes l.keys }

@@ -1,0 +1,3 @@
+pub mod AttrCounts
+pub mod AttrSet
+pub mod ValueLaws

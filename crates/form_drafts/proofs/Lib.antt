@@ -1,0 +1,6 @@
+pub mod DraftLaws
+pub mod EachLaws
+pub mod KeyPlaces
+pub mod LikeLaws
+pub mod Mild
+mod OptionLaws

@@ -1,0 +1,4 @@
+use Rattle.form_worked_acts.proofs.clicks.clicks_of_every_button.Given as goal
+
+abbrev pub ghosts-first_wrong : goal.ghosts-first_wrong
+ghosts-first_wrong a b = record { name = b.blank.name; parts = b.blank.parts }

@@ -1,8 +1,8 @@
 -- How the program ends: its line on standard error, and its exit status.
 use Rattle.std.specs.Prelude.{ℕ, List, codes, Option, Some, None}
 use Rattle.form_run.specs.Transcript.{code_of}
-use Rattle.form_run.specs.declared.top.Status.{Status}
-use Rattle.form_run.specs.declared.top.Status.TheVariants.{Done, Page, Usage, ReadFault, WriteFault, Memory, TooLong}
+use Rattle.form_run.specs.declared.status.Status.{Status}
+use Rattle.form_run.specs.declared.status.Status.TheVariants.{Done, Page, Usage, ReadFault, WriteFault, FileFault, Memory, TooLong, FileChanged}
 use Rattle.form_lab.specs.declared.ending.Ending.{Ending}
 use Rattle.form_lab.specs.declared.ending.Ending.TheVariants.{Ran, NoWords}
 
@@ -17,8 +17,10 @@ line_after Page = Some (codes "form_lab: page refused")
 line_after Usage = Some (codes "form_lab: usage: form_lab BASE [FILE ...] | --generate N")
 line_after ReadFault = Some (codes "form_lab: read fault")
 line_after WriteFault = Some (codes "form_lab: write fault")
+line_after FileFault = Some (codes "form_lab: file fault")
 line_after Memory = Some (codes "form_lab: no memory")
 line_after TooLong = Some (codes "form_lab: input too long")
+line_after (FileChanged scanned given) = Some (codes "form_lab: file changed")
 
 -- the line of an ending
 abbrev pub line_of : Ending → Option (List ℕ)

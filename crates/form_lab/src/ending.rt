@@ -28,8 +28,10 @@ fn line_after(status: &Status) -> Option<&'static str>
         Status::Usage => Some("form_lab: usage: form_lab BASE [FILE ...] | --generate N"),
         Status::ReadFault => Some("form_lab: read fault"),
         Status::WriteFault => Some("form_lab: write fault"),
+        Status::FileFault => Some("form_lab: file fault"),
         Status::Memory => Some("form_lab: no memory"),
         Status::TooLong => Some("form_lab: input too long"),
+        Status::FileChanged(_, _) => Some("form_lab: file changed"),
     }
 }
 

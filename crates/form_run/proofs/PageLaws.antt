@@ -1,6 +1,6 @@
--- What a page that is taken is, and what is known of one that is not.
-use Rattle.std.proofs.Common.{◌≡◌, ℕ, List, [], Bool, true, false, Result, Ok, Err, cond, refl, sym, ap, subst, ◌∙◌, inl, inr}
-use Rattle.std.specs.Prelude.{◌⊎◌, IsUtf8, codes}
+-- What the page of an input is, and what is known of one that is refused.
+use Rattle.std.proofs.Common.{◌≡◌, ℕ, List, [], Bool, true, false, Result, Ok, Err, refl, sym, ap, subst, ◌∙◌, inl, inr}
+use Rattle.std.specs.Prelude.{IsUtf8, codes}
 use Rattle.std.specs.Str.{is_utf8}
 use Rattle.std.specs.Str.Lossy.{utf8_valid_len}
 use Rattle.std.proofs.lemmas.Str.{is_utf8-from_IsUtf8}
@@ -12,34 +12,29 @@ use Rattle.form_tokens.specs.declared.fault.Fault.TheVariants as faults
 use Rattle.form_markup.specs.declared.fault.PageFault.{PageFault}
 use Rattle.form_markup.specs.declared.fault.PageFault.TheVariants as pages
 use Rattle.form_markup.proofs.AnswerLaws.{answer_never, answer_read}
-use Rattle.form_run.specs.Page.{is_first_page}
-use Rattle.form_run.specs.Input.{page_text}
-use Rattle.form_run.specs.Taken.{bad_page_line, page_in, page_of, page_taken, unbuilt_line, utf8_line}
+use Rattle.form_input.specs.Input.{page_text}
+use Rattle.form_run.specs.Taken.{bad_page_line, page_in, page_of, page_taken, utf8_line}
 use Rattle.form_run.specs.Transcript.{HasFault, PageIs, SpellsPage, end_of, expected_end}
-use Rattle.form_run.specs.declared.top.Status.{Status}
-use Rattle.form_run.proofs.Texts.{is_utf8-not}
+use Rattle.form_run.specs.declared.status.Status.{Status}
+use Rattle.form_input.proofs.Laws.{is_utf8-not}
 
 -- ---- what is known of a page
 
--- the elements of a page that is taken
+-- what a page spells, or that it has a fault
 abbrev pub Tells : Result (List Raw) (List ℕ) → List ℕ → Type 0
-Tells (Ok raws) text = SpellsPage true text
-Tells (Err line) text = HasFault text ⊎ SpellsPage false text
+Tells (Ok raws) text = SpellsPage text
+Tells (Err line) text = HasFault text
 
 pub tells : (text : List ℕ) → Tells (page_taken (answer_of [] text)) text
 tells text = go (answer_of [] text) (answer_read [] text) (answer_never [] text)
   where
-    test : (raws : List Raw) (b : Bool) → is_first_page raws ≡ b → IsRead [] text (Ok raws) → Tells (cond b (Ok raws) (Err unbuilt_line)) text
-    test raws true e spelled = (raws, spelled, e)
-    test raws false e spelled = inr (raws, spelled, e)
-
     go : (answer : Result (List Raw) PageFault) → IsRead [] text answer → (answer ≡ Err pages.Memory → ⊥) → Tells (page_taken answer) text
-    go (Ok raws) read some = test raws (is_first_page raws) refl read
-    go (Err (pages.Lexical place)) read some = inl (faults.Lexical, place, read)
-    go (Err (pages.Limit place)) read some = inl (faults.Limit, place, read)
-    go (Err (pages.Element place)) read some = inl (faults.Element, place, read)
-    go (Err (pages.Email place)) read some = inl (faults.Email, place, read)
-    go (Err (pages.Nesting place)) read some = inl (faults.Nesting, place, read)
+    go (Ok raws) read some = (raws, read)
+    go (Err (pages.Lexical place)) read some = (faults.Lexical, place, read)
+    go (Err (pages.Limit place)) read some = (faults.Limit, place, read)
+    go (Err (pages.Element place)) read some = (faults.Element, place, read)
+    go (Err (pages.Email place)) read some = (faults.Email, place, read)
+    go (Err (pages.Nesting place)) read some = (faults.Nesting, place, read)
     go (Err pages.Memory) read some = absurd (some refl)
 
 -- ---- the page of an input

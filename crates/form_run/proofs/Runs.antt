@@ -1,14 +1,31 @@
--- What a run knows of its input and its end.
-use Rattle.std.proofs.Common.{◌≡◌, ℕ, ◌≤◌, length, arith, List, ◌++◌, refl, sym, ap, subst, ◌∙◌, inl, true, false, Some, None, IfSome, append-nil}
-use Rattle.std.specs.Prelude.{Option, ◌⊎◌, IsSome, is_some}
+-- What a run knows of its input, its files and its end.
+use Rattle.std.proofs.Common.{◌≡◌, ℕ, zero, suc, ◌≤◌, ◌==◌, length, arith, List, [], ◌∷◌, ◌++◌, refl, sym, ap, subst, ◌∙◌, inl, inr, true, false, Bool, Option, Some, None, IfSome, Result, Ok, Err, append-nil, set}
+use Rattle.std.specs.Prelude.{◌⊎◌, IsSome, slice_get}
 use Rattle.std.specs.Io.KnownBytes.{IsAtEnd}
+use Rattle.std.proofs.lemmas.Bool.Decides.{nat_tests}
+use Rattle.std.proofs.lemmas.Bool.{false≢true}
 use Rattle.url.specs.Parts.{Parts}
-use Rattle.form_run.specs.Limits.{most_input, too_many}
-use Rattle.form_run.specs.Moved.{Gave}
-use Rattle.form_run.specs.declared.top.Status.{Status}
-use Rattle.form_run.specs.declared.top.Status.TheVariants.{Done, Page, Usage, ReadFault, WriteFault, Memory, TooLong}
-use Rattle.form_run.specs.Transcript.{expected_end, PageIs, IsEnd, IsReadingEnd, IsWhole}
+use Rattle.form_ports.specs.Shelf.{IsFile, IsThere, at_number, told, told_in}
+use Rattle.form_tree.specs.declared.node.Raw.{Raw}
+use Rattle.form_input.specs.Input.{command_lines}
+use Rattle.form_input.specs.Limits.{most_input}
+use Rattle.form_input.specs.Moved.{Gave}
+use Rattle.form_run.specs.declared.status.Status.{Status}
+use Rattle.form_run.specs.declared.status.Status.TheVariants as ends
+use Rattle.form_input.specs.Words.{PlainTask, Generated, Page}
+use Rattle.form_ports.proofs.Laws.{append_known-nil}
+use Rattle.form_run.specs.Counting.{generated_text}
+use Rattle.form_run.specs.Ended.{AllTell, HasFilesUpTo, HasWritten, IsWhole}
+use Rattle.form_run.specs.Endings.{SomeChanged}
+use Rattle.form_run.specs.Replies.{files_after_all}
+use Rattle.form_run.specs.Session.{Files, Session, after, asked_in, files_after, opened, withdrawn, without_all, without_number}
+use Rattle.form_run.specs.Taken.{page_in}
+use Rattle.form_run.specs.Transcript.{AreExpectedUpTo, AreFilesSoFar, IsEnd, IsWritingEnd, PageIs, WroteInput, WroteInputPart, expected_end}
+use Rattle.form_run.proofs.FilesLaws.{other_place}
 use Rattle.form_run.proofs.PageLaws.{page_told}
+use Rattle.form_run.proofs.TranscriptLaws.{input_untouched, wrote_nothing}
+
+-- ---- the bytes of the source
 
 -- what holds of the bytes that were read holds of the bytes that the source held
 pub of_input : (held left : Option (List ℕ)) (before now : ℕ) (input : List ℕ) (P : List ℕ → Type 0) → Gave held left before now input → IsAtEnd left → P input → IfSome held P
@@ -18,40 +35,115 @@ of_input held (Some rest) before now input P gave at_end here =
     let Q : Option (List ℕ) → Type 0 = λ h. IfSome h P in
     subst Q (sym (gave.held_is ∙ ap Some (ap (λ r. input ++ r) at_end ∙ append-nil input))) here
 
--- without a fault of the source the input is read whole, or memory was refused
-pub stopped : (held left written now : Option (List ℕ)) (base : Option Parts) (status : Status) (Read Write : Type 0) → IsReadingEnd status ≡ true
-    → (status ≡ Usage → base ≡ None) → (status ≡ ReadFault → Read) → (status ≡ TooLong → IfSome held (λ input. too_many ≤ length input))
-    → IsSome base → IfSome held (λ input. length input ≤ most_input → ¬ Read → ¬ Write → (status ≡ Memory) ⊎ IsWhole left written now base status input)
-stopped None left written now base status Read Write kind usage fault long there = tt
-stopped (Some input) left written now base status Read Write kind usage fault long there = λ short calm silent. go status kind usage fault long short calm
+-- what holds of all bytes holds of those
+pub of_any : (held : Option (List ℕ)) (P : List ℕ → Type 0) → ((input : List ℕ) → P input) → IfSome held P
+of_any None P all = tt
+of_any (Some input) P all = all input
+
+-- what the bytes have that the source held, and what follows from it
+pub of_held : (held : Option (List ℕ)) (P Q : List ℕ → Type 0) → ((input : List ℕ) → P input → Q input) → IfSome held P → IfSome held Q
+of_held None P Q then has = tt
+of_held (Some input) P Q then has = then input has
+
+-- ---- the files that tell
+
+gone_place : (files : Files) (gone : ℕ) → IsFile (slice_get (set files gone None) gone) → ⊥
+gone_place [] gone there = there
+gone_place (file ∷ files) zero there = there
+gone_place (file ∷ files) (suc gone) there = gone_place files gone there
+
+tell_without : (files : Files) (number : ℕ) → AllTell files → AllTell (without_number files number)
+unfolding at_number told
+tell_without files zero tell = tell
+tell_without files (suc gone) tell = go
   where
-    go : (status : Status) → IsReadingEnd status ≡ true → (status ≡ Usage → base ≡ None) → (status ≡ ReadFault → Read) → (status ≡ TooLong → too_many ≤ length input)
-        → length input ≤ most_input → ¬ Read → (status ≡ Memory) ⊎ IsWhole left written now base status input
-    go Usage kind usage fault long short calm = let P : Option Parts → Type 0 = λ o. is_some o ≡ true in let none : false ≡ true = subst P (usage refl) there in cc
-    go ReadFault kind usage fault long short calm = absurd (calm (fault refl))
-    go TooLong kind usage fault long short calm = let much = long refl in absurd (omega (arith, much))
-    go Memory kind usage fault long short calm = inl refl
-    go Done kind usage fault long short calm = cc
-    go Page kind usage fault long short calm = cc
-    go WriteFault kind usage fault long short calm = cc
+    still : (place : ℕ) (b : Bool) → (place == gone) ≡ b → IsThere (set files gone None) (suc place) → IsSome (told (set files gone None) (suc place))
+    still place true e there =
+        let same : place ≡ gone = grind (arith, nat_tests, e) in
+        let P : ℕ → Type 0 = λ p. IsFile (slice_get (set files gone None) p) in
+        absurd (gone_place files gone (subst P same there.file))
+    still place false e there =
+        let other : place ≡ gone → ⊥ = λ same. grind (arith, nat_tests, e, same) in
+        let kept = other_place files gone place None other in
+        let P : Option (Option (Option (List ℕ))) → Type 0 = IsFile in
+        let Q : Option (Option (Option (List ℕ))) → Type 0 = λ file. IsSome (told_in file) in
+        subst Q (sym kept) (tell (suc place) (record { file = subst P kept there.file }))
+
+    go : (number : ℕ) → IsThere (set files gone None) number → IsSome (told (set files gone None) number)
+    go zero there = absurd there.file
+    go (suc place) there = still place (place == gone) refl there
+
+pub tell_after : (files : Files) (number : Option ℕ) → AllTell files → AllTell (without_all files number)
+tell_after files None tell = tell
+tell_after files (Some number) tell = tell_without files number tell
+
+tell_after_all : (session : Session) (files : Files) (lines : List (List ℕ)) → AllTell files → AllTell (files_after_all session files lines)
+unfolding files_after_all
+tell_after_all session files [] tell = tell
+tell_after_all session files (line ∷ lines) tell =
+    tell_after_all (after session line) (files_after session.page files line) lines
+    (tell_after files (withdrawn session.page (asked_in session.page line)) tell)
+
+tell_so_far : (base : Parts) (names lines : List (List ℕ)) (page : Result (List Raw) (List ℕ)) (old new : Files)
+    → AreFilesSoFar base names lines page old new → AllTell old → AllTell new
+tell_so_far base names lines (Err line) old new same tell = subst AllTell (sym same) tell
+tell_so_far base names lines (Ok raws) old new are tell =
+    subst AllTell (sym are.is) (tell_after_all (opened base raws names) old are.front tell)
+
+-- ---- ends
+
+-- no file changed where all of them tell their content
+none_changed : (files : Files) (positions : List (Option ℕ)) (a b : ℕ) → AllTell files → SomeChanged files positions a b → ⊥
+none_changed files positions a b tell changed =
+    let P : Option (List ℕ) → Type 0 = IsSome in
+    false≢true (subst P changed.untold (tell changed.number changed.there))
+
+module _ (old new : Files) (base : Parts) (names : List (List ℕ)) (input : List ℕ) (positions : List (Option ℕ)) (left written now : Option (List ℕ)) (Write Rise : Type 0) where
+  -- without a fault the whole transcript was written, or memory was refused
+  pub whole_or_memory : (status : Status) → IsWritingEnd status ≡ true → IsAtEnd left → (IsEnd status ≡ true → WroteInput old base names input status written now)
+      → AreExpectedUpTo base names input old new → (status ≡ ends.WriteFault → Write) → (status ≡ ends.FileFault → Rise)
+      → ((a b : ℕ) → status ≡ ends.FileChanged a b → SomeChanged new positions a b)
+      → AllTell old → ¬ Write → ¬ Rise → (status ≡ ends.Memory) ⊎ IsWhole old base names input status left written now
+  whole_or_memory ends.Done kind at_end wrote kept write rise changed tell calm silent = inr (record { at_end = at_end; whole = wrote refl })
+  whole_or_memory ends.Page kind at_end wrote kept write rise changed tell calm silent = inr (record { at_end = at_end; whole = wrote refl })
+  whole_or_memory ends.WriteFault kind at_end wrote kept write rise changed tell calm silent = absurd (calm (write refl))
+  whole_or_memory ends.FileFault kind at_end wrote kept write rise changed tell calm silent = absurd (silent (rise refl))
+  whole_or_memory ends.Memory kind at_end wrote kept write rise changed tell calm silent = inl refl
+  whole_or_memory (ends.FileChanged a b) kind at_end wrote kept write rise changed tell calm silent =
+      absurd (none_changed new positions a b (tell_so_far base names (command_lines input) (page_in input) old new kept tell) (changed a b refl))
+  whole_or_memory ends.Usage kind at_end wrote kept write rise changed tell calm silent = absurd (cc kind)
+  whole_or_memory ends.ReadFault kind at_end wrote kept write rise changed tell calm silent = absurd (cc kind)
+  whole_or_memory ends.TooLong kind at_end wrote kept write rise changed tell calm silent = absurd (cc kind)
 
 -- an end that writing the transcript may have tells of the page
-pub page_of_end : (input : List ℕ) (status : Status) (Text : Type 0) → (IsEnd status ≡ true → (status ≡ expected_end input) × Text) → PageIs status input
-page_of_end input Done Text whole = page_told input Done (whole refl).0
-page_of_end input Page Text whole = page_told input Page (whole refl).0
-page_of_end input Usage Text whole = tt
-page_of_end input ReadFault Text whole = tt
-page_of_end input WriteFault Text whole = tt
-page_of_end input Memory Text whole = tt
-page_of_end input TooLong Text whole = tt
+pub page_of_end : (input : List ℕ) (status : Status) → IsWritingEnd status ≡ true → (IsEnd status ≡ true → status ≡ expected_end input) → PageIs status input
+page_of_end input ends.Done kind end = page_told input ends.Done (end refl)
+page_of_end input ends.Page kind end = page_told input ends.Page (end refl)
+page_of_end input ends.WriteFault kind end = tt
+page_of_end input ends.FileFault kind end = tt
+page_of_end input ends.Memory kind end = tt
+page_of_end input (ends.FileChanged a b) kind end = tt
+page_of_end input ends.Usage kind end = tt
+page_of_end input ends.ReadFault kind end = tt
+page_of_end input ends.TooLong kind end = tt
 
--- an end that reading the input may have tells nothing of it
-pub page_unread : (held : Option (List ℕ)) (status : Status) → IsReadingEnd status ≡ true → IfSome held (λ input. PageIs status input)
-page_unread None status kind = tt
-page_unread (Some input) Usage kind = tt
-page_unread (Some input) ReadFault kind = tt
-page_unread (Some input) TooLong kind = tt
-page_unread (Some input) Memory kind = tt
-page_unread (Some input) WriteFault kind = tt
-page_unread (Some input) Done kind = cc
-page_unread (Some input) Page kind = cc
+-- ---- tasks
+
+-- nothing was written
+pub task_nothing : (task : Option PlainTask) (files : Files) (held written : Option (List ℕ)) → HasWritten task files held written written
+task_nothing None files held written = refl
+task_nothing (Some (Page base names)) files held written = of_any held (λ input. WroteInputPart files base names input written written) (λ input. wrote_nothing files base names input written)
+task_nothing (Some (Generated count)) files held written =
+    record { front = []; rest = generated_text count; whole = refl; bytes = append_known-nil written }
+
+-- no file went
+pub task_untouched : (task : Option PlainTask) (held : Option (List ℕ)) (files : Files) → HasFilesUpTo task held files files
+task_untouched None held files = refl
+task_untouched (Some (Page base names)) held files = of_any held (λ input. AreExpectedUpTo base names input files files) (λ input. input_untouched files base names input)
+task_untouched (Some (Generated count)) held files = refl
+
+-- nothing is asked of a run whose source failed
+pub rose_complete : (held : Option (List ℕ)) (files : Files) (Read Write Rise : Type 0) (Whole : List ℕ → Type 0) → Read
+    → IfSome held (λ input. length input ≤ most_input → AllTell files → ¬ Read → ¬ Write → ¬ Rise → Whole input)
+rose_complete None files Read Write Rise Whole rose = tt
+rose_complete (Some input) files Read Write Rise Whole rose = λ short tell quiet calm silent. absurd (quiet rose)

@@ -1,10 +1,9 @@
-pub mod Limits
-pub mod Lines
-pub mod Input
-pub mod Reading
-pub mod Page
-pub mod Taken
-pub mod Command
-pub mod Moved
+pub mod Asking
 pub mod Session
+pub mod Saying
+pub mod Endings
+pub mod Replies
+pub mod Counting
+pub mod Taken
 pub mod Transcript
+pub mod Ended

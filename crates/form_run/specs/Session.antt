@@ -1,123 +1,108 @@
--- What a session replies to a line.
-use Rattle.std.specs.Prelude.{ℕ, List, [], ◌∷◌, ◌++◌, length, codes, Bool, true, ◌==◌, ◌&&◌, bytes_eq, is_some, if◌then◌else◌, Option, Some, None}
+-- What a run keeps from line to line, and what each line makes of it.
+use Rattle.std.specs.Prelude.{◌==◌, ℕ, zero, suc, ◌≤◌, Bool, true, false, List, [], ◌∷◌, length, codes, All, ⊤, Option, Some, None, set}
 use Rattle.url.specs.Parts.{Parts}
-use Rattle.form_tree.specs.declared.node.Key.{Key}
-use Rattle.form_tree.specs.declared.node.State.{State}
-use Rattle.form_tree.specs.Tree.{Tree, Nodes, attr_of, state_of, with_state, empty_state, tree_of_raws}
-use Rattle.form_submit.specs.declared.First.{First}
-use Rattle.form_submit.specs.declared.First.TheVariants.{Action, Scheme, Get}
-use Rattle.form_submit.specs.First.{first_request}
-use Rattle.form_run.specs.Lines.{line_then}
+use Rattle.form_encode.specs.Boundaries.{longest_boundary}
 use Rattle.form_tree.specs.declared.node.Raw.{Raw}
-use Rattle.form_run.specs.Command.{command_in}
-use Rattle.form_run.specs.declared.command.Command.{Command}
-use Rattle.form_run.specs.declared.command.Command.TheVariants.{Enter, Set}
+use Rattle.form_page.specs.Opening as pages
+use Rattle.form_page.specs.Page.{Page}
+use Rattle.form_changes.specs.declared.act.Act.{Act}
+use Rattle.form_changes.specs.declared.act.Act.TheVariants as acts
+use Rattle.form_changes.specs.declared.act.ActFault.{ActFault}
+use Rattle.form_acts.specs.Acts.{outcome}
+use Rattle.form_acts.specs.Refusals.{refusal_of}
+use Rattle.form_input.specs.Lines.{without_cr}
+use Rattle.form_script.specs.declared.command.Command.{Command}
+use Rattle.form_script.specs.LineReading.{command_of}
+use Rattle.form_run.specs.declared.asked.Asked.{Asked}
+use Rattle.form_run.specs.declared.asked.Asked.TheVariants as asks
+use Rattle.form_run.specs.Asking.{asked}
 
--- a session: the document's URL, and the tree of its page as the commands so far left it
+-- The document's URL, the page as it is now, and the boundaries that multipart bodies may have.
 pub record Session : Type 0 where
   pub base : Parts
-  pub tree : Tree
+  pub page : Page
+  pub bounds : List (List ℕ)
 
--- the keys of the form and of its input
-abbrev pub form_key : Key
-form_key = record { 0 = 1 }
+-- the boundary that there is as long as none is named
+abbrev pub first_boundary : List ℕ
+first_boundary = codes "form-boundary-0"
 
-abbrev pub input_key : Key
-input_key = record { 0 = 2 }
+-- a session with a page that was just read
+abbrev pub opened : Parts → List Raw → List (List ℕ) → Session
+opened base raws names = record { base = base; page = pages.opened raws names; bounds = first_boundary ∷ [] }
 
--- the session that a page begins: its elements, with empty states
-abbrev pub opened : Parts → List Raw → Session
-opened base raws = record { base = base; tree = tree_of_raws raws }
+-- ---- what a line asks for
 
--- ---- the input's value and flag
+abbrev pub number_sign : ℕ
+number_sign = 35
 
-abbrev pub or_empty : Option (List ℕ) → List ℕ
-or_empty (Some text) = text
-or_empty None = []
+-- an empty line and one that begins with `#` are no commands
+abbrev pub is_no_command : List ℕ → Bool
+is_no_command [] = true
+is_no_command (b ∷ line) = b == number_sign
 
-abbrev pub value_in : Option State → List ℕ
-value_in (Some state) = state.value
-value_in None = []
+abbrev pub asked_by_line : Bool → Page → Option Command → Asked
+asked_by_line true page command = asks.NoCommand
+asked_by_line false page None = asks.Syntax
+asked_by_line false page (Some command) = asked page.tree.nodes command
 
--- the input's value
-abbrev pub value_of : Nodes → List ℕ
-value_of nodes = value_in (state_of nodes input_key)
+-- what a line asks for; a carriage return at its end is no part of it
+unfoldable pub asked_in : Page → List ℕ → Asked
+asked_in page line = asked_by_line (is_no_command (without_cr line)) page (command_of (without_cr line))
 
--- with that value the input suffers from being missing (HTML, "The required attribute")
-abbrev pub is_missing_at : Nodes → List ℕ → Bool
-is_missing_at nodes value = is_some (attr_of nodes input_key (codes "required")) && (length value == 0)
+-- boundaries are as long as they may be
+abbrev pub HasShortBoundaries : Asked → Type 0
+HasShortBoundaries (asks.Boundaries boundaries) = All (λ boundary. length boundary ≤ longest_boundary) boundaries
+HasShortBoundaries asked = ⊤
 
--- the input suffers from being missing
-abbrev pub is_value_missing : Nodes → Bool
-is_value_missing nodes = is_missing_at nodes (value_of nodes)
+-- ---- the session after a line
 
--- ---- printed lines
+abbrev pub page_after : Page → Asked → Page
+page_after page (asks.Act act) = outcome page act
+page_after page asked = page
 
--- the line of a command that was done
-abbrev pub ok_line : List ℕ
-ok_line = line_then (codes "ok") []
+abbrev pub bounds_after : List (List ℕ) → Asked → List (List ℕ)
+bounds_after bounds (asks.Boundaries boundaries) = boundaries
+bounds_after bounds asked = bounds
 
-abbrev pub refused_line : List ℕ
-refused_line = line_then (codes "refused unbuilt") []
-
--- the words of the flags that hold
-abbrev pub flag_words : Bool → List ℕ
-flag_words missing = if missing then codes "valueMissing" else codes "-"
-
--- the input's view, and then more
-abbrev pub view_then : List ℕ → Bool → List ℕ → List ℕ
-view_then value missing more =
-    codes "@2 value=\""
-    ++ (value ++ (codes "\" checked=no candidate=yes flags=" ++ line_then (flag_words missing) more))
-
--- ---- the command `set`
-
--- the tree with this text as the input's value; its dirty value flag is set
-abbrev pub with_value : Tree → List ℕ → Tree
-with_value tree text = record tree {
-  nodes = with_state tree.nodes input_key (record empty_state { value = text; dirty = true });
+abbrev pub session_after : Session → Asked → Session
+session_after session asked = record {
+  base = session.base;
+  page = page_after session.page asked;
+  bounds = bounds_after session.bounds asked;
 }
 
--- the input's view where it changed, which it does exactly where its value does; and then that the command was done
-abbrev pub set_reply : Nodes → List ℕ → List ℕ
-set_reply nodes text =
-    if bytes_eq (value_of nodes) text then ok_line
-    else view_then text (is_missing_at nodes text) ok_line
+abbrev pub after : Session → List ℕ → Session
+after session line = session_after session (asked_in session.page line)
 
--- ---- the command `enter`: the form's implicit submission (HTML, "Implicit submission")
+-- ---- the files after a line
 
--- what the form asks for
-abbrev pub request_of : Session → First
-request_of session =
-    first_request session.base (or_empty (attr_of session.tree.nodes form_key (codes "action")))
-    (or_empty (attr_of session.tree.nodes input_key (codes "name"))) (value_of session.tree.nodes)
+-- what is told of the files of a run: the content of each, where there is one and where it tells it
+abbrev pub Files : Type 0
+Files = List (Option (Option (List ℕ)))
 
-abbrev pub request_reply : First → List ℕ
-request_reply Action = line_then (codes "none action") ok_line
-request_reply Scheme = line_then (codes "none scheme") ok_line
-request_reply (Get url) = codes "request GET " ++ line_then url ok_line
+-- the files without the one of that number; numbers are counted from 1
+abbrev pub without_number : {X : Type 0} → List (Option X) → ℕ → List (Option X)
+without_number files zero = files
+without_number files (suc place) = set files place None
 
--- the submission stops where the input suffers from being missing; otherwise it is the request, or why there is none
-abbrev pub enter_reply : Session → List ℕ
-enter_reply session =
-    if is_value_missing session.tree.nodes
-    then line_then (codes "stopped") (line_then (codes "invalid @2 valueMissing") ok_line)
-    else request_reply (request_of session)
+abbrev pub without_all : {X : Type 0} → List (Option X) → Option ℕ → List (Option X)
+without_all files None = files
+without_all files (Some number) = without_number files number
 
--- ---- lines
+-- the number of the file that an act withdraws
+abbrev pub withdrawn_by : Act → Option ℕ
+withdrawn_by (acts.Withdraw number) = Some number
+withdrawn_by act = None
 
--- the reply to a command, and the session after it
-abbrev pub reply_to : Session → Option Command → List ℕ × Session
-reply_to session None = (refused_line, session)
-reply_to session (Some Enter) = (enter_reply session, session)
-reply_to session (Some (Set text)) =
-    (set_reply session.tree.nodes text, record session { tree = with_value session.tree text })
+abbrev pub withdrawn_unless : Option ActFault → Act → Option ℕ
+withdrawn_unless None act = withdrawn_by act
+withdrawn_unless (Some fault) act = None
 
--- the reply to a line, and the session after it
-unfoldable pub reply : Session → List ℕ → List ℕ × Session
-reply session line = reply_to session (command_in line)
+-- a refused act withdraws nothing
+abbrev pub withdrawn : Page → Asked → Option ℕ
+withdrawn page (asks.Act act) = withdrawn_unless (refusal_of page act) act
+withdrawn page asked = None
 
--- the replies to all lines in turn
-unfoldable pub replies : Session → List (List ℕ) → List ℕ
-replies session [] = []
-replies session (line ∷ lines) = (reply session line).0 ++ replies (reply session line).1 lines
+abbrev pub files_after : Page → Files → List ℕ → Files
+files_after page files line = without_all files (withdrawn page (asked_in page line))

@@ -1,4 +1,4 @@
--- The elements of an input's page, or the line that says why it is not taken.
+-- The elements of an input's page, or the line that says why it is refused.
 use Rattle.std.specs.Prelude.{◌≡◌, ℕ, List, [], ◌++◌, codes, string_bytes, Result, Ok, Err, if◌then◌else◌}
 use Rattle.std.specs.Fmt.{decimal}
 use Rattle.std.specs.Str.{is_utf8}
@@ -8,9 +8,8 @@ use Rattle.form_tree.specs.declared.node.Raw.{Raw}
 use Rattle.form_markup.specs.Answer.{answer_of}
 use Rattle.form_markup.specs.declared.fault.PageFault.{PageFault}
 use Rattle.form_markup.specs.declared.fault.PageFault.TheVariants as pages
-use Rattle.form_run.specs.Lines.{line_then}
-use Rattle.form_run.specs.Input.{page_text}
-use Rattle.form_run.specs.Page.{is_first_page}
+use Rattle.form_input.specs.Lines.{line_then}
+use Rattle.form_input.specs.Input.{page_text}
 use Rattle.form_run.specs.declared.taken.PageStop.{PageStop}
 use Rattle.form_run.specs.declared.taken.PageStop.TheVariants as stops
 
@@ -27,17 +26,13 @@ fault_line (pages.Email place) = bad_page_line (codes "email") place
 fault_line (pages.Nesting place) = bad_page_line (codes "nesting") place
 fault_line pages.Memory = []
 
--- the line of a page that is spelled but is not taken so far
-abbrev pub unbuilt_line : List ℕ
-unbuilt_line = bad_page_line (codes "unbuilt") 0
-
 -- the line of an input that is not UTF-8; the place is the length of its longest front that is
 abbrev pub utf8_line : List ℕ → List ℕ
 utf8_line input = bad_page_line (codes "utf8") (utf8_valid_len input)
 
--- the elements of a page that is taken, or else the line that says why it is not
+-- the elements of a page, or else the line that says why it is refused
 abbrev pub page_taken : Result (List Raw) PageFault → Result (List Raw) (List ℕ)
-page_taken (Ok raws) = if is_first_page raws then Ok raws else Err unbuilt_line
+page_taken (Ok raws) = Ok raws
 page_taken (Err fault) = Err (fault_line fault)
 
 -- the text of an input's page, with LF for each line end
@@ -48,7 +43,7 @@ page_of input = with_lf (page_text input)
 unfoldable pub page_in : List ℕ → Result (List Raw) (List ℕ)
 page_in input = if is_utf8 input then page_taken (answer_of [] (page_of input)) else Err (utf8_line input)
 
--- a call that does not take the page gave its line, or there was no memory
+-- a call that refuses the page gave its line, or there was no memory
 abbrev pub IsStop : PageStop → Result (List Raw) (List ℕ) → Type 0
 IsStop stops.Memory page = Unit {0}
 IsStop (stops.Refused line) page = page ≡ Err (string_bytes line)

@@ -1,103 +1,176 @@
--- What a run writes, and how it ends.
-use Rattle.std.specs.Prelude.{◌≡◌, ℕ, List, [], ◌∷◌, codes, Bool, true, false, Option, Some, None, Result, Ok, Err, ◌⊎◌}
+-- What a run writes, how it ends, and what its files are then.
+use Rattle.std.specs.Prelude.{◌≡◌, ℕ, List, [], ◌++◌, length, codes, Bool, true, false, Option, Result, Ok, Err, ◌⊎◌, ⊤}
+use Rattle.std.specs.Fmt.{decimal}
 use Rattle.std.specs.Str.{is_utf8}
-use Rattle.std.specs.Result.{result_ok}
 use Rattle.std.specs.Io.KnownBytes.{append_known, IsAtEnd}
-use Rattle.url.specs.Parser.{parse_url}
 use Rattle.url.specs.Parts.{Parts}
+use Rattle.form_ports.specs.Written.{WrotePart}
 use Rattle.form_tree.specs.declared.node.Raw.{Raw}
 use Rattle.form_markup.specs.Spelling.{IsFault, Spells}
 use Rattle.form_tokens.specs.declared.fault.Fault.{Fault}
-use Rattle.form_run.specs.Lines.{line_then}
-use Rattle.form_run.specs.Input.{command_lines}
-use Rattle.form_run.specs.Page.{is_first_page}
+use Rattle.form_input.specs.Input.{command_lines}
+use Rattle.form_input.specs.Lines.{line_then}
+use Rattle.form_input.specs.Moved.{Gave}
+use Rattle.form_run.specs.Counting.{generated_end, generated_text}
+use Rattle.form_run.specs.Replies.{AreFilesUpTo, AreReplies, files_after_all}
+use Rattle.form_run.specs.Session.{Files, opened}
 use Rattle.form_run.specs.Taken.{page_in, page_of}
-use Rattle.form_run.specs.Session.{opened, replies}
-use Rattle.form_run.specs.declared.top.Status.{Status}
-use Rattle.form_run.specs.declared.top.Status.TheVariants.{Done, Page, Usage, ReadFault, WriteFault, Memory, TooLong}
+use Rattle.form_run.specs.declared.status.Status.{Status}
+use Rattle.form_run.specs.declared.status.Status.TheVariants as ends
+use Rattle.form_run.specs.declared.stop.Stop.{Stop}
+use Rattle.form_run.specs.declared.stop.Stop.TheVariants as stops
 
--- the document's URL: the words are one word that parses as a URL
-abbrev pub base_of : List (List ℕ) → Option Parts
-base_of (base ∷ []) = result_ok (parse_url None base)
-base_of words = None
+-- ---- the transcript
 
--- a page's number of elements, and the replies to all commands in turn
-abbrev pub transcript : Parts → List (List ℕ) → Result (List Raw) (List ℕ) → List ℕ
-transcript base lines (Err line) = line
-transcript base lines (Ok raws) = line_then (codes "page 2") (replies (opened base raws) lines)
+-- the line of a page that is read: how many elements it has
+abbrev pub page_line : ℕ → List ℕ
+page_line count = codes "page " ++ line_then (decimal count) []
 
--- the text of the transcript; without a base there is none
-abbrev pub expected_text : Option Parts → List ℕ → List ℕ
-expected_text None input = []
-expected_text (Some base) input = transcript base (command_lines input) (page_in input)
+-- the transcript of a page, or of the line that refuses it, and of lines
+abbrev pub IsTranscript : Files → Parts → List (List ℕ) → List (List ℕ) → Result (List Raw) (List ℕ) → List ℕ → Type 0
+IsTranscript files base names lines (Err line) text = text ≡ line
+IsTranscript files base names lines (Ok raws) text =
+    (replies : List ℕ) × AreReplies files (opened base raws names) lines replies
+    × (text ≡ page_line (length raws) ++ replies)
+
+-- the text that a run over an input writes
+abbrev pub IsExpected : Files → Parts → List (List ℕ) → List ℕ → List ℕ → Type 0
+IsExpected files base names input text = IsTranscript files base names (command_lines input) (page_in input) text
 
 -- the end of the transcript
 abbrev pub end_of : Result (List Raw) (List ℕ) → Status
-end_of (Err line) = Page
-end_of (Ok raws) = Done
+end_of (Err line) = ends.Page
+end_of (Ok raws) = ends.Done
 
 abbrev pub expected_end : List ℕ → Status
 expected_end input = end_of (page_in input)
 
--- the text spells elements of which this test gives this answer
-abbrev pub SpellsPage : Bool → List ℕ → Type 0
-SpellsPage is_first text = (raws : List Raw) × Spells [] text raws × (is_first_page raws ≡ is_first)
+-- ---- the files
+
+-- the files after a whole run
+abbrev pub files_at_end : Parts → List (List ℕ) → List (List ℕ) → Result (List Raw) (List ℕ) → Files → Files
+files_at_end base names lines (Err line) files = files
+files_at_end base names lines (Ok raws) files = files_after_all (opened base raws names) files lines
+
+abbrev pub expected_files : Parts → List (List ℕ) → List ℕ → Files → Files
+expected_files base names input files = files_at_end base names (command_lines input) (page_in input) files
+
+-- the files after some of a run's lines
+abbrev pub AreFilesSoFar : Parts → List (List ℕ) → List (List ℕ) → Result (List Raw) (List ℕ) → Files → Files → Type 0
+AreFilesSoFar base names lines (Err line) old new = new ≡ old
+AreFilesSoFar base names lines (Ok raws) old new = AreFilesUpTo (opened base raws names) lines old new
+
+abbrev pub AreExpectedUpTo : Parts → List (List ℕ) → List ℕ → Files → Files → Type 0
+AreExpectedUpTo base names input old new = AreFilesSoFar base names (command_lines input) (page_in input) old new
+
+-- ---- the page
+
+-- the text spells a page
+abbrev pub SpellsPage : List ℕ → Type 0
+SpellsPage text = (raws : List Raw) × Spells [] text raws
 
 -- the text has a fault
 abbrev pub HasFault : List ℕ → Type 0
 HasFault text = (kind : Fault) × (place : ℕ) × IsFault [] text kind place
 
--- With the end Done the input is UTF-8 and its page spells elements that are taken; with the end Page it is not UTF-8,
--- or its page has a fault, or spells other elements.
+-- With the end Done the input is UTF-8 and spells a page; with the end Page it is not UTF-8, or its page has a fault.
 abbrev pub PageIs : Status → List ℕ → Type 0
-PageIs Done input = (is_utf8 input ≡ true) × SpellsPage true (page_of input)
-PageIs Page input = (is_utf8 input ≡ false) ⊎ (HasFault (page_of input) ⊎ SpellsPage false (page_of input))
-PageIs status input = Unit {0}
+PageIs ends.Done input = (is_utf8 input ≡ true) × SpellsPage (page_of input)
+PageIs ends.Page input = (is_utf8 input ≡ false) ⊎ HasFault (page_of input)
+PageIs status input = ⊤
 
 -- ---- kinds of ends
 
--- the run wrote the whole transcript
+-- the run wrote the whole text
 abbrev pub IsEnd : Status → Bool
-IsEnd Done = true
-IsEnd Page = true
+IsEnd ends.Done = true
+IsEnd ends.Page = true
 IsEnd status = false
 
 -- nothing is written with such an end
 abbrev pub IsSilent : Status → Bool
-IsSilent Usage = true
-IsSilent ReadFault = true
-IsSilent TooLong = true
+IsSilent ends.Usage = true
+IsSilent ends.ReadFault = true
+IsSilent ends.TooLong = true
 IsSilent status = false
+
+-- no file is gone with such an end
+abbrev pub IsUntouched : Status → Bool
+IsUntouched ends.Page = true
+IsUntouched status = IsSilent status
 
 -- the ends that reading the input may have
 abbrev pub IsReadingEnd : Status → Bool
-IsReadingEnd Usage = true
-IsReadingEnd ReadFault = true
-IsReadingEnd TooLong = true
-IsReadingEnd Memory = true
+IsReadingEnd ends.ReadFault = true
+IsReadingEnd ends.TooLong = true
+IsReadingEnd ends.Memory = true
 IsReadingEnd status = false
 
--- the ends that writing the transcript may have
+-- the ends that writing a transcript may have
 abbrev pub IsWritingEnd : Status → Bool
-IsWritingEnd Done = true
-IsWritingEnd Page = true
-IsWritingEnd WriteFault = true
-IsWritingEnd Memory = true
-IsWritingEnd status = false
+IsWritingEnd ends.Usage = false
+IsWritingEnd ends.ReadFault = false
+IsWritingEnd ends.TooLong = false
+IsWritingEnd status = true
 
--- the input was read to its end, and its transcript was written
-pub record IsWhole (left written now : Option (List ℕ)) (base : Option Parts) (status : Status) (input : List ℕ)
-    : Type 0 where
-  pub at_end : IsAtEnd left
-  pub end : status ≡ expected_end input
-  pub text : now ≡ append_known written (expected_text base input)
+-- the ends that writing counts may have
+abbrev pub is_generated_end : Status → Bool
+is_generated_end ends.Done = true
+is_generated_end ends.Page = true
+is_generated_end ends.WriteFault = true
+is_generated_end ends.Memory = true
+is_generated_end status = false
+
+-- the end that a stop comes to
+abbrev pub status_by : Stop → Status
+status_by stops.WriteFault = ends.WriteFault
+status_by stops.FileFault = ends.FileFault
+status_by stops.Memory = ends.Memory
+status_by (stops.FileChanged a b) = ends.FileChanged a b
+
+abbrev pub status_of : Result Status Stop → Status
+status_of (Ok status) = status
+status_of (Err stop) = status_by stop
 
 -- the exit code of a status
 abbrev pub code_of : Status → ℕ
-code_of Done = 0
-code_of Page = 1
-code_of Usage = 2
-code_of ReadFault = 3
-code_of WriteFault = 4
-code_of Memory = 6
-code_of TooLong = 7
+code_of ends.Done = 0
+code_of ends.Page = 1
+code_of ends.Usage = 2
+code_of ends.ReadFault = 3
+code_of ends.WriteFault = 4
+code_of ends.FileFault = 5
+code_of ends.Memory = 6
+code_of ends.TooLong = 7
+code_of (ends.FileChanged a b) = 8
+
+-- ---- what was written
+
+-- of an input: its whole text, with its end
+pub record WroteInput (files : Files) (base : Parts) (names : List (List ℕ)) (input : List ℕ) (status : Status)
+    (written now : Option (List ℕ)) : Type 0 where
+  pub end : status ≡ expected_end input
+  pub text : List ℕ
+  pub is : IsExpected files base names input text
+  pub wrote : now ≡ append_known written text
+
+-- of an input: a front of its text
+pub record WroteInputPart (files : Files) (base : Parts) (names : List (List ℕ)) (input : List ℕ)
+    (written now : Option (List ℕ)) : Type 0 where
+  pub text : List ℕ
+  pub is : IsExpected files base names input text
+  pub part : WrotePart written now text
+
+-- The source was read to its end, the whole text was written, and the files are those that the commands leave.
+pub record WroteAll (old new : Files) (base : Parts) (names : List (List ℕ)) (held left : Option (List ℕ))
+    (given taken : ℕ) (status : Status) (written now : Option (List ℕ)) : Type 0 where
+  pub input : List ℕ
+  pub gave : Gave held left given taken input
+  pub at_end : IsAtEnd left
+  pub whole : WroteInput old base names input status written now
+  pub files : new ≡ expected_files base names input old
+
+-- the counts of a generated page were written
+pub record WroteCounts (count : ℕ) (status : Status) (written now : Option (List ℕ)) : Type 0 where
+  pub end : status ≡ generated_end count
+  pub wrote : now ≡ append_known written (generated_text count)

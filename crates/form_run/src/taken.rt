@@ -1,15 +1,13 @@
 // The elements of an input's page.
-ghost use Rattle.std.specs.Prelude.{◌≡◌, [], true, Err, IfOk, IfErr};
-ghost use Rattle.form_tree.specs.Tree.{IsTreeOfRaws};
+ghost use Rattle.std.specs.Prelude.{◌≡◌, [], Err, IfOk, IfErr};
 ghost use Rattle.form_markup.specs.Answer.{answer_of};
 ghost use Rattle.form_text.specs.LineEnds.{with_lf};
-ghost use Rattle.form_run.specs.Lines.{lines_of};
-ghost use Rattle.form_run.specs.Input.{command_lines};
-ghost use Rattle.form_run.specs.Page.{is_first_page};
+ghost use Rattle.form_acts.specs.Soundness.{IsOpenable};
+ghost use Rattle.form_input.specs.Input.{command_lines};
+ghost use Rattle.form_input.specs.Lines.{lines_of};
 ghost use Rattle.form_run.specs.Taken.{IsStop, bad_page_line, fault_line, page_in, page_taken};
 
-use crate::input::split_script;
-use crate::page::is_first_page;
+use form_input::split_script;
 use form_markup::{PageFault, read};
 use form_text::normalise_lf;
 use form_tree::Raw;
@@ -19,7 +17,7 @@ use std::str::from_utf8;
 /// Why there are no elements.
 #[derive(Debug, Drop)]
 pub enum PageStop {
-    /// The page is not taken; the line says why.
+    /// The page is refused; the line says why.
     Refused(String),
     Memory,
 }
@@ -34,8 +32,8 @@ fn bad_page(alloc: Global, kind: &str, place: usize) -> PageStop
     }
 }
 
-// The line of a page's fault.
-fn bad_page_at(alloc: Global, fault: PageFault) -> PageStop
+/// The line of a page's fault.
+pub fn bad_page_at(alloc: Global, fault: PageFault) -> PageStop
     ensures line { IsStop result (Err (fault_line fault)) }
     ensures memory { fault ≡ PageFault.Memory → result ≡ PageStop.Memory }
 {
@@ -52,8 +50,7 @@ fn bad_page_at(alloc: Global, fault: PageFault) -> PageStop
 // The elements of a page's text.
 fn take_page(alloc: Global, page: &str) -> Result<Vec<Raw>, PageStop>
     ensures taken { IfOk result (λ raws. page_taken (answer_of [] (with_lf page.now)) ≡ Ok raws.items) }
-    ensures first { IfOk result (λ raws. is_first_page raws.items ≡ true) }
-    ensures tree { IfOk result (λ raws. IsTreeOfRaws raws.items) }
+    ensures openable { IfOk result (λ raws. IsOpenable raws.items) }
     ensures refused { IfErr result (λ stop. IsStop stop (page_taken (answer_of [] (with_lf page.now)))) }
 {
     let text = match normalise_lf(alloc, page) {
@@ -61,12 +58,7 @@ fn take_page(alloc: Global, page: &str) -> Result<Vec<Raw>, PageStop>
         Err(_) => return Err(PageStop::Memory),
     };
     match read(alloc, text.as_str()) {
-        Ok(raws) => {
-            if is_first_page(&raws) {
-                return Ok(raws);
-            }
-            Err(bad_page(alloc, "unbuilt", 0))
-        }
+        Ok(raws) => Ok(raws),
         Err(fault) => Err(bad_page_at(alloc, fault)),
     }
 }
@@ -75,8 +67,7 @@ fn take_page(alloc: Global, page: &str) -> Result<Vec<Raw>, PageStop>
 pub fn page_of_input(alloc: Global, input: &[u8]) -> Result<(Vec<Raw>, &str), PageStop>
     ensures taken { IfOk result (λ parts. page_in input.now ≡ Ok parts.0.items) }
     ensures commands { IfOk result (λ parts. lines_of parts.1.now ≡ command_lines input.now) }
-    ensures first { IfOk result (λ parts. is_first_page parts.0.items ≡ true) }
-    ensures tree { IfOk result (λ parts. IsTreeOfRaws parts.0.items) }
+    ensures openable { IfOk result (λ parts. IsOpenable parts.0.items) }
     ensures refused { IfErr result (λ stop. IsStop stop (page_in input.now)) }
 {
     match from_utf8(input) {

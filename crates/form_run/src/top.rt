@@ -1,176 +1,81 @@
 // The top call.
-ghost use Rattle.std.specs.Prelude.{◌≡◌, ℕ, ◌+◌, ◌<◌, ◌≤◌, ◌⊎◌, List, map, length, true, None, Some, IsSome, IfOk, IfErr, OnOk, IfSome, MatchOption, string_bytes, []};
-ghost use Rattle.std.specs.Io.KnownBytes.{append_known, IsAtEnd};
+ghost use Rattle.std.specs.Prelude.{◌≡◌, ◌≢◌, ℕ, ◌+◌, ◌≤◌, ◌⊎◌, All, IfSome, IsSome, None, false, length, map, string_bytes, true};
 ghost use Rattle.form_ports.specs.Ports.{Rose};
-ghost use Rattle.url.specs.Parts.{Parts};
-ghost use Rattle.form_run.specs.Lines.{lines_of};
-ghost use Rattle.form_tree.specs.Tree.{IsTreeOfRaws};
-ghost use Rattle.form_run.specs.Page.{is_first_page};
-ghost use Rattle.form_run.specs.Limits.{most_input, too_many};
-ghost use Rattle.form_ports.specs.Written.{WrotePart};
-ghost use Rattle.form_run.specs.Moved.{Gave};
-ghost use Rattle.form_run.specs.Transcript.{base_of, transcript, expected_text, expected_end, PageIs, IsEnd, IsSilent, IsReadingEnd, IsWritingEnd, IsWhole, code_of};
+ghost use Rattle.form_ports.specs.Shelf.{contents_of, numbers_of};
+ghost use Rattle.form_input.specs.Limits.{most_input, too_many};
+ghost use Rattle.form_input.specs.Words.{PlainTask, asks_generated, file_words, task_of};
+ghost use Rattle.form_run.specs.Ended.{AllTell, HasEnded, HasFilesUpTo, HasWritten, IsCompleteOf, IsPageOf, IsUnread, IsWhole};
+ghost use Rattle.form_run.specs.Endings.{NoneCame, SomeChanged, SomeFileRose};
+ghost use Rattle.form_run.specs.Transcript.{AreExpectedUpTo, IsEnd, IsSilent, IsUntouched, PageIs, WroteAll, WroteInputPart};
 
-use crate::moves::{ReadStop, read_all};
-use crate::replying::{Stop, serve_all};
-use crate::session::Session;
-use crate::taken::{PageStop, page_of_input};
-use form_ports::{Blob, Sink, Source, write_all};
-use form_tree::Raw;
+use crate::counting::write_generated;
+use crate::status::Status;
+use crate::transcript::transcribe;
+use form_input::{ReadStop, Task, TaskStop, read_all, task_of};
+use form_ports::{Blob, Sink, Source};
 use std::alloc::Global;
-use url::{ParseError, Url};
+use std::marker::Brand;
+use std::sync::ledger::Blank;
+use url::Url;
 
-/// How a run ended.
-#[derive(Clone, Copy, Debug, PartialEq, Eq)]
-pub enum Status {
-    /// The input was read to its end, and the whole transcript was written.
-    Done,
-    /// The input is not UTF-8, or its page is refused; the one line that says so was written.
-    Page,
-    /// The words are not one URL. Nothing was read or written.
-    Usage,
-    /// The source failed. Nothing was written.
-    ReadFault,
-    /// The sink failed. What was written is a front of the transcript.
-    WriteFault,
-    /// There was no memory. What was written is a front of the transcript.
-    Memory,
-    /// The input has more than 16,777,216 bytes. Nothing was written.
-    TooLong,
-}
-
-/// The exit code of a status.
-pub fn code(status: &Status) -> u8
-    ensures { result ≡ code_of status.now }
-{
-    match status {
-        Status::Done => 0,
-        Status::Page => 1,
-        Status::Usage => 2,
-        Status::ReadFault => 3,
-        Status::WriteFault => 4,
-        Status::Memory => 6,
-        Status::TooLong => 7,
-    }
-}
-
-/// Why there is no base.
-#[derive(Clone, Copy, Debug, PartialEq, Eq)]
-enum BaseStop {
-    Usage,
-    Memory,
-}
-
-// The document's URL, which the words name.
-fn base(alloc: Global, words: &[String]) -> Result<Url, BaseStop>
-    ensures ok { IfOk result (λ url. base_of (map string_bytes words.now) ≡ Some url) }
-    ensures usage { result ≡ Err BaseStop.Usage → base_of (map string_bytes words.now) ≡ None }
-{
-    match words {
-        [base] => match Url::parse(alloc, base.as_str()) {
-            Ok(url) => Ok(url),
-            Err(ParseError::OutOfMemory | ParseError::Overflow) => Err(BaseStop::Memory),
-            Err(_) => Err(BaseStop::Usage),
-        },
-        _ => Err(BaseStop::Usage),
-    }
-}
-
-// Writes the transcript of a page that is taken.
-fn transcribe_page<K: Sink>(
+// Reads the whole input, and writes its transcript. The shelf has one file for each name.
+fn run_page<S: Source, K: Sink>(
     alloc: Global,
     base: Url,
-    raws: Vec<Raw>,
-    commands: &str,
-    sink: &mut K,
-) -> Status
-    requires first { is_first_page raws.items ≡ true }
-    requires tree { IsTreeOfRaws raws.items }
-    ensures end { IsEnd result ≡ true → (result ≡ Status.Done)
-        × (K.written sink.new
-        ≡ append_known (K.written sink.old) (transcript base (lines_of commands.now) (Ok raws.items))) }
-    ensures part { WrotePart (K.written sink.old) (K.written sink.new)
-        (transcript base (lines_of commands.now) (Ok raws.items)) }
-    ensures write_fault { result ≡ Status.WriteFault → Rose (K.faults sink.old) (K.faults sink.new) }
-    ensures kinds { IsWritingEnd result ≡ true }
-    ensures later { K.faults sink.old ≤ K.faults sink.new }
-{
-    let mut session = match Session::open(alloc, base, raws) {
-        Ok(session) => session,
-        Err(_) => return Status::Memory,
-    };
-    match write_all(sink, b"page 2\n") {
-        Ok(()) => {}
-        Err(_) => return Status::WriteFault,
-    }
-    match serve_all(alloc, &mut session, commands, sink) {
-        Ok(()) => Status::Done,
-        Err(Stop::WriteFault) => Status::WriteFault,
-        Err(Stop::Memory) => Status::Memory,
-    }
-}
-
-/// Writes the transcript of an input.
-fn transcribe<K: Sink>(alloc: Global, base: Url, input: &[u8], sink: &mut K) -> Status
-    ensures end { IsEnd result ≡ true → (result ≡ expected_end input.now)
-        × (K.written sink.new ≡ append_known (K.written sink.old) (expected_text (Some base) input.now)) }
-    ensures part { WrotePart (K.written sink.old) (K.written sink.new) (expected_text (Some base) input.now) }
-    ensures write_fault { result ≡ Status.WriteFault → Rose (K.faults sink.old) (K.faults sink.new) }
-    ensures kinds { IsWritingEnd result ≡ true }
-    ensures later { K.faults sink.old ≤ K.faults sink.new }
-{
-    match page_of_input(alloc, input) {
-        Ok((raws, commands)) => transcribe_page(alloc, base, raws, commands, sink),
-        Err(PageStop::Refused(line)) => match write_all(sink, line.as_bytes()) {
-            Ok(()) => Status::Page,
-            Err(_) => Status::WriteFault,
-        },
-        Err(PageStop::Memory) => Status::Memory,
-    }
-}
-
-/// Reads what the run is about: the document's URL, and the whole input.
-fn open<S: Source>(
-    alloc: Global,
-    words: &[String],
+    names: Vec<String>,
     source: &mut S,
-) -> Result<(Url, Vec<u8>), Status>
-    ensures base { IfOk result (λ opened. base_of (map string_bytes words.now) ≡ Some opened.0) }
-    ensures input { IfOk result (λ opened. (length opened.1.items ≤ most_input)
-        × Gave (S.held source.old) (S.held source.new) (S.given source.old) (S.given source.new) opened.1.items) }
-    ensures at_end { OnOk result (IsAtEnd (S.held source.new)) }
-    ensures kinds { IfErr result (λ status. IsReadingEnd status ≡ true) }
-    ensures usage { result ≡ Err Status.Usage → base_of (map string_bytes words.now) ≡ None }
-    ensures only_usage { base_of (map string_bytes words.now) ≡ None
-        → (result ≡ Err Status.Usage) ⊎ (result ≡ Err Status.Memory) }
-    ensures unread { result ≡ Err Status.Usage
-        → (S.given source.new ≡ S.given source.old) × (S.held source.new ≡ S.held source.old) }
-    ensures read_fault { result ≡ Err Status.ReadFault → Rose (S.faults source.old) (S.faults source.new) }
-    ensures too_long { result ≡ Err Status.TooLong → S.given source.new ≡ S.given source.old + too_many }
-    ensures long { result ≡ Err Status.TooLong → IfSome (S.held source.old) (λ input. too_many ≤ length input) }
+    sink: &mut K,
+    shelf: &mut Vec<Option<Box<dyn Blob>>>,
+) -> Status
+    requires files { length names.items ≡ length shelf.old.items }
+    requires there { All IsSome shelf.old.items }
+    ensures end { IsEnd result ≡ true → WroteAll (contents_of (λ b. content b) shelf.old.items)
+        (contents_of (λ b. content b) shelf.new.items) base (map string_bytes names.items) (S.held source.old)
+        (S.held source.new) (S.given source.old) (S.given source.new) result (K.written sink.old) (K.written sink.new) }
+    ensures part { IfSome (S.held source.old) (λ input. WroteInputPart (contents_of (λ b. content b) shelf.old.items) base
+        (map string_bytes names.items) input (K.written sink.old) (K.written sink.new)) }
+    ensures silent { IsSilent result ≡ true → K.written sink.new ≡ K.written sink.old }
+    ensures page { IfSome (S.held source.old) (PageIs result) }
+    ensures usage { result ≢ Status.Usage }
+    ensures read_fault { result ≡ Status.ReadFault → Rose (S.faults source.old) (S.faults source.new) }
+    ensures write_fault { result ≡ Status.WriteFault → Rose (K.faults sink.old) (K.faults sink.new) }
+    ensures file_fault { result ≡ Status.FileFault
+        → SomeFileRose (numbers_of (λ b. (⟦<dyn Blob as Blob>⟧ b.vtable).faults b.value) shelf.old.items)
+        (numbers_of (λ b. (⟦<dyn Blob as Blob>⟧ b.vtable).faults b.value) shelf.new.items) }
+    ensures changed { (a b : ℕ) → result ≡ Status.FileChanged a b
+        → SomeChanged (contents_of (λ b. content b) shelf.new.items) (numbers_of (λ b. position b) shelf.new.items) a b }
+    ensures too_long { result ≡ Status.TooLong → S.given source.new ≡ S.given source.old + too_many }
     ensures only_too_long { S.given source.new ≡ S.given source.old + too_many
-        → (result ≡ Err Status.TooLong) ⊎ (result ≡ Err Status.Memory) }
+        → (result ≡ Status.TooLong) ⊎ (result ≡ Status.Memory) }
     ensures most { S.given source.new ≤ S.given source.old + too_many }
-    ensures later { S.faults source.old ≤ S.faults source.new }
+    ensures complete { IfSome (S.held source.old) (λ input. length input ≤ most_input
+        → AllTell (contents_of (λ b. content b) shelf.old.items)
+        → ¬ (Rose (S.faults source.old) (S.faults source.new)) → ¬ (Rose (K.faults sink.old) (K.faults sink.new))
+        → ¬ (SomeFileRose (numbers_of (λ b. (⟦<dyn Blob as Blob>⟧ b.vtable).faults b.value) shelf.old.items)
+        (numbers_of (λ b. (⟦<dyn Blob as Blob>⟧ b.vtable).faults b.value) shelf.new.items))
+        → (result ≡ Status.Memory) ⊎ IsWhole (contents_of (λ b. content b) shelf.old.items) base
+        (map string_bytes names.items) input result (S.held source.new) (K.written sink.old) (K.written sink.new)) }
+    ensures untouched { IsUntouched result ≡ true → shelf.new.items ≡ shelf.old.items }
+    ensures kept { IfSome (S.held source.old) (λ input. AreExpectedUpTo base (map string_bytes names.items) input
+        (contents_of (λ b. content b) shelf.old.items) (contents_of (λ b. content b) shelf.new.items)) }
+    ensures counts { NoneCame (numbers_of (λ b. (⟦<dyn Blob as Blob>⟧ b.vtable).faults b.value) shelf.old.items)
+        (numbers_of (λ b. (⟦<dyn Blob as Blob>⟧ b.vtable).faults b.value) shelf.new.items) }
+    ensures later { (S.faults source.old ≤ S.faults source.new) × (K.faults sink.old ≤ K.faults sink.new) }
 {
-    let base = match base(alloc, words) {
-        Ok(base) => base,
-        Err(BaseStop::Usage) => return Err(Status::Usage),
-        Err(BaseStop::Memory) => return Err(Status::Memory),
-    };
     match read_all(alloc, source) {
-        Ok(input) => Ok((base, input)),
-        Err(ReadStop::Fault) => Err(Status::ReadFault),
-        Err(ReadStop::TooLong) => Err(Status::TooLong),
-        Err(ReadStop::Memory) => Err(Status::Memory),
+        Ok(input) => transcribe::<K, Brand>(Blank::new(1), alloc, base, names, input, shelf, sink),
+        Err(ReadStop::Fault) => Status::ReadFault,
+        Err(ReadStop::TooLong) => Status::TooLong,
+        Err(ReadStop::Memory) => Status::Memory,
     }
 }
 
-/// Reads a page and commands, and writes the transcript.
+/// Reads a page and commands, and writes the transcript; or writes the counts of a generated page.
 ///
-/// The words are one word, the document's URL. The source is read to its end, up to 16,777,216
-/// bytes: a page, and behind a line that is exactly `%script` the commands, one a line. The shelf
-/// has the files of the words behind the first, of which there are none yet.
+/// The words are the document's URL and the files, whose names are the last components of their words;
+/// or `--generate` and a number of controls up to 5,000. The source is read to its end, up to 16,777,216
+/// bytes: a page, and behind a line that is exactly `%script` the commands, one a line. The shelf has one
+/// file for each word behind the first. Nothing is sent: a request is printed.
 pub fn run<S: Source, K: Sink>(
     alloc: Global,
     words: &[String],
@@ -178,34 +83,37 @@ pub fn run<S: Source, K: Sink>(
     sink: &mut K,
     shelf: &mut Vec<Option<Box<dyn Blob>>>,
 ) -> Status
-    requires { shelf.old.items ≡ [] }
+    requires files { asks_generated (map string_bytes words.now) ≡ false
+        → length (file_words (map string_bytes words.now)) ≡ length shelf.old.items }
+    requires there { asks_generated (map string_bytes words.now) ≡ false → All IsSome shelf.old.items }
 
-    // With such an end, some input was read whole, and exactly its transcript was written.
-    ensures end { IsEnd result ≡ true → ((base : Parts) × (input : List ℕ)
-        × (base_of (map string_bytes words.now) ≡ Some base)
-        × Gave (S.held source.old) (S.held source.new) (S.given source.old) (S.given source.new) input
-        × IsAtEnd (S.held source.new)
-        × (result ≡ expected_end input)
-        × (K.written sink.new ≡ append_known (K.written sink.old) (expected_text (Some base) input))) }
+    // With such an end some input was read whole, exactly its transcript was written, and the files are those that its
+    // commands leave; of a generated page the counts were written.
+    ensures end { HasEnded (task_of (map string_bytes words.now)) (contents_of (λ b. content b) shelf.old.items)
+        (contents_of (λ b. content b) shelf.new.items) (S.held source.old) (S.held source.new) (S.given source.old)
+        (S.given source.new) result (K.written sink.old) (K.written sink.new) }
 
-    // In every ending what was written is a front of the transcript.
-    ensures part { IfSome (S.held source.old) (λ input.
-        WrotePart (K.written sink.old) (K.written sink.new)
-        (expected_text (base_of (map string_bytes words.now)) input)) }
+    // In every ending what was written is a front of the text.
+    ensures part { HasWritten (task_of (map string_bytes words.now)) (contents_of (λ b. content b) shelf.old.items)
+        (S.held source.old) (K.written sink.old) (K.written sink.new) }
     ensures silent { IsSilent result ≡ true → K.written sink.new ≡ K.written sink.old }
 
-    // With Done the page is one that is taken so far; with Page the input is not UTF-8, or its page has a fault, or
-    // is another.
-    ensures page { IfSome (S.held source.old) (λ input. PageIs result input) }
+    // With Done the input is UTF-8 and spells a page; with Page it is not UTF-8, or its page has a fault.
+    ensures page { IsPageOf (task_of (map string_bytes words.now)) (S.held source.old) result }
 
     // Each ending has its cause; want of memory alone is free.
-    ensures usage { result ≡ Status.Usage → base_of (map string_bytes words.now) ≡ None }
-    ensures only_usage { base_of (map string_bytes words.now) ≡ None
+    ensures usage { result ≡ Status.Usage → task_of (map string_bytes words.now) ≡ None }
+    ensures only_usage { task_of (map string_bytes words.now) ≡ None
         → (result ≡ Status.Usage) ⊎ (result ≡ Status.Memory) }
-    ensures unread { result ≡ Status.Usage
-        → (S.given source.new ≡ S.given source.old) × (S.held source.new ≡ S.held source.old) }
+    ensures unread { IsUnread (task_of (map string_bytes words.now)) (S.held source.old) (S.held source.new)
+        (S.given source.old) (S.given source.new) }
     ensures read_fault { result ≡ Status.ReadFault → Rose (S.faults source.old) (S.faults source.new) }
     ensures write_fault { result ≡ Status.WriteFault → Rose (K.faults sink.old) (K.faults sink.new) }
+    ensures file_fault { result ≡ Status.FileFault
+        → SomeFileRose (numbers_of (λ b. (⟦<dyn Blob as Blob>⟧ b.vtable).faults b.value) shelf.old.items)
+        (numbers_of (λ b. (⟦<dyn Blob as Blob>⟧ b.vtable).faults b.value) shelf.new.items) }
+    ensures changed { (a b : ℕ) → result ≡ Status.FileChanged a b
+        → SomeChanged (contents_of (λ b. content b) shelf.new.items) (numbers_of (λ b. position b) shelf.new.items) a b }
     ensures too_long { result ≡ Status.TooLong → S.given source.new ≡ S.given source.old + too_many }
     ensures only_too_long { S.given source.new ≡ S.given source.old + too_many
         → (result ≡ Status.TooLong) ⊎ (result ≡ Status.Memory) }
@@ -213,18 +121,33 @@ pub fn run<S: Source, K: Sink>(
     // No more is read than tells that the input is too long.
     ensures most { S.given source.new ≤ S.given source.old + too_many }
 
-    // Where no count rose and the bytes are told, the whole transcript is written, or memory was refused.
-    ensures complete { IsSome (base_of (map string_bytes words.now)) → IfSome (S.held source.old) (λ input.
-        length input ≤ most_input
-        → ¬ (Rose (S.faults source.old) (S.faults source.new)) → ¬ (Rose (K.faults sink.old) (K.faults sink.new))
-        → (result ≡ Status.Memory)
-        ⊎ IsWhole (S.held source.new) (K.written sink.old) (K.written sink.new)
-        (base_of (map string_bytes words.now)) result input) }
+    // Where no count rose and all bytes are told, the whole text is written, or memory was refused.
+    ensures complete { IsCompleteOf (task_of (map string_bytes words.now)) (contents_of (λ b. content b) shelf.old.items)
+        (S.held source.old) (S.held source.new) (Rose (S.faults source.old) (S.faults source.new))
+        (Rose (K.faults sink.old) (K.faults sink.new))
+        (SomeFileRose (numbers_of (λ b. (⟦<dyn Blob as Blob>⟧ b.vtable).faults b.value) shelf.old.items)
+        (numbers_of (λ b. (⟦<dyn Blob as Blob>⟧ b.vtable).faults b.value) shelf.new.items))
+        result (K.written sink.old) (K.written sink.new) }
+
+    // No file is gone but those that were withdrawn so far, and none tells another content.
+    ensures untouched { IsUntouched result ≡ true → shelf.new.items ≡ shelf.old.items }
+    ensures kept { HasFilesUpTo (task_of (map string_bytes words.now)) (S.held source.old)
+        (contents_of (λ b. content b) shelf.old.items) (contents_of (λ b. content b) shelf.new.items) }
+    ensures counts { NoneCame (numbers_of (λ b. (⟦<dyn Blob as Blob>⟧ b.vtable).faults b.value) shelf.old.items)
+        (numbers_of (λ b. (⟦<dyn Blob as Blob>⟧ b.vtable).faults b.value) shelf.new.items) }
     ensures later { (S.faults source.old ≤ S.faults source.new) × (K.faults sink.old ≤ K.faults sink.new) }
-    ensures shelf { shelf.new.items ≡ shelf.old.items }
 {
-    match open(alloc, words, source) {
-        Ok((base, input)) => transcribe(alloc, base, &input, sink),
-        Err(status) => status,
+    match task_of(alloc, words) {
+        Ok(
+            Task::Page {
+                base: base,
+                names: names,
+            },
+        ) => run_page(alloc, base, names, source, sink, shelf),
+        Ok(Task::Generated(count)) => {
+            write_generated::<K, Brand>(Blank::new(1), alloc, count, sink)
+        }
+        Err(TaskStop::Usage) => Status::Usage,
+        Err(TaskStop::Memory) => Status::Memory,
     }
 }

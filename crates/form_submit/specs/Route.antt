@@ -1,6 +1,6 @@
 -- Where a submission leads before its entry list is made (HTML, "Form submission algorithm").
-use Rattle.std.specs.Prelude.{ℕ, not, ◌&&◌, ◌||◌, Bool, List, [], ◌∷◌, map, Option, Ok, Err, codes, bytes_eq, if◌then◌else◌}
-use Rattle.url.specs.Parser.{Parsed}
+use Rattle.std.specs.Prelude.{ℕ, not, ◌&&◌, ◌||◌, ◌==◌, Bool, List, [], ◌∷◌, length, map, Option, Some, Ok, Err, codes, bytes_eq, if◌then◌else◌}
+use Rattle.url.specs.Parser.{Parsed, parse_url}
 use Rattle.url.specs.Parts.{Parts}
 use Rattle.form_tree.specs.declared.node.Key.{Key}
 use Rattle.form_tree.specs.Tree.{Nodes}
@@ -16,7 +16,6 @@ use Rattle.form_submit.specs.declared.route.Route.{Route}
 use Rattle.form_submit.specs.declared.route.Route.TheVariants as routes
 use Rattle.form_submit.specs.declared.route.Way.TheVariants as ways
 use Rattle.form_submit.specs.Attributes.{action_of, enctype_of, is_no_validate, method_of}
-use Rattle.form_submit.specs.First.{parsed_action}
 
 -- ---- validation
 
@@ -28,6 +27,12 @@ invalid_keys ns form = map (λ n. n.key) (invalid_controls ns form)
 abbrev pub stopping_keys : Nodes → Key → Option Key → Bool → List Key
 stopping_keys ns form submitter check =
     if check && not (is_no_validate ns form submitter) then invalid_keys ns form else []
+
+-- ---- the action
+
+-- the parsed action: an empty action is the document's URL itself
+abbrev pub parsed_action : Parts → List ℕ → Parsed Parts
+parsed_action base action = if length action == 0 then Ok base else parse_url (Some base) action
 
 -- ---- the table of schemes
 

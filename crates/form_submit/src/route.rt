@@ -1,16 +1,15 @@
 // Where a submission leads before its entry list is made.
 ghost use Rattle.std.specs.Prelude.{◌≡◌, IfOk};
-ghost use Rattle.form_submit.specs.First.{parsed_action};
-ghost use Rattle.form_submit.specs.Route.{deed_of, for_post, route_by_action, route_by_method, route_of, route_of_body, route_of_url, stopped_by};
+ghost use Rattle.url.specs.Parser.{Gives};
+ghost use Rattle.form_submit.specs.Route.{deed_of, for_post, parsed_action, route_by_action, route_by_method, route_of, route_of_body, route_of_url, stopped_by};
 
 use crate::attributes::{Enctype, Method, action_of, enctype_of, method_of};
 use crate::invalid::stopping_keys;
-use crate::parse_action;
 use form_page::Page;
 use form_text::Sequence;
 use form_tree::{Key, Tree};
 use std::alloc::{AllocError, Global};
-use url::{ParseError, Url};
+use url::{ParseError, ParseResult, Url};
 
 /// What is done with the parsed action (HTML, "Form submission algorithm", the table of schemes).
 #[derive(Clone, Copy, Debug, PartialEq, Eq)]
@@ -102,6 +101,20 @@ fn route_of_url(url: Url, method: Method, enctype: Enctype) -> Route
         Deed::Body => route_of_body(url, enctype),
         Deed::AsItIs => Route::Direct(Direct::AsItIs(url)),
         Deed::Nothing => Route::Direct(Direct::Scheme),
+    }
+}
+
+// The parsed action.
+fn parse_action(base: &Url, action: &str) -> ParseResult<Url>
+    ensures { Gives result (parsed_action base.now action.now) }
+{
+    if action.is_empty() {
+        match base.clone() {
+            Ok(url) => Ok(url),
+            Err(_) => Err(ParseError::OutOfMemory),
+        }
+    } else {
+        base.join(action)
     }
 }
 

@@ -1,15 +1,34 @@
-use Rattle.std.proofs.Common.{ap, Err}
-use Rattle.form_run.proofs.Runs.{of_input, page_of_end, page_unread, stopped}
+use Rattle.std.proofs.Common.{map, sym, ◌∙◌}
+use Rattle.std.specs.Prelude.{string_bytes}
+use Rattle.std.proofs.lemmas.List.{length-map}
+use Rattle.form_input.proofs.Laws.{generated-count, page-names}
+use Rattle.form_run.proofs.FilesLaws.{came_same}
+use Rattle.form_run.proofs.Runs.{task_nothing, task_untouched}
 use Rattle.form_run.proofs.top.run.Goals as goal
 
-pub returns-in-Err-clause-complete : goal.returns-in-Err-clause-complete
-returns-in-Err-clause-complete g c =
-    stopped _ _ _ _ _ c.in-Err.status _ _ c.in-Err.ensures.kinds (λ e. c.in-Err.ensures.usage (ap Err e))
-    (λ e. c.in-Err.ensures.read_fault (ap Err e)) (λ e. c.in-Err.ensures.long (ap Err e))
+pub run_page-requires-clause-files : goal.run_page-requires-clause-files
+run_page-requires-clause-files g c =
+    let n = page-names (map string_bytes c.args.words.now) c.in-Ok-Page.base (map string_bytes c.in-Ok-Page.names.items) (rw (c.in-Ok-Page.is, c.in-Ok-Page.field-0-is) at c.task_of.ensures.ok) in
+    sym (length-map _ _) ∙ n.2 ∙ c.requires.files n.0
 
-pub returns-in-Ok-clause-page : goal.returns-in-Ok-clause-page
-returns-in-Ok-clause-page g c =
-    of_input _ _ _ _ _ _ c.in-Ok.ensures.input.1 c.in-Ok.ensures.at_end (page_of_end _ _ _ (rw c.deref.ensures.value at c.transcribe.ensures.end))
+pub run_page-requires-clause-there : goal.run_page-requires-clause-there
+run_page-requires-clause-there g c =
+    c.requires.there (page-names (map string_bytes c.args.words.now) c.in-Ok-Page.base (map string_bytes c.in-Ok-Page.names.items) (rw (c.in-Ok-Page.is, c.in-Ok-Page.field-0-is) at c.task_of.ensures.ok)).0
 
-pub returns-in-Err-clause-page : goal.returns-in-Err-clause-page
-returns-in-Err-clause-page g c = page_unread _ _ c.in-Err.ensures.kinds
+pub write_generated-requires-clause-few : goal.write_generated-requires-clause-few
+write_generated-requires-clause-few g c = (generated-count (map string_bytes c.args.words.now) c.in-Ok-Generated.count (rw (c.in-Ok-Generated.is, c.in-Ok-Generated.field-0-is) at c.task_of.ensures.ok)).2
+
+pub returns-in-Ok-Generated-clause-counts : goal.returns-in-Ok-Generated-clause-counts
+returns-in-Ok-Generated-clause-counts g c = came_same _
+
+pub returns-in-Err-Usage-clause-counts : goal.returns-in-Err-Usage-clause-counts
+returns-in-Err-Usage-clause-counts g c = came_same _
+
+pub returns-in-Err-Memory-clause-part : goal.returns-in-Err-Memory-clause-part
+returns-in-Err-Memory-clause-part g c = task_nothing _ _ _ _
+
+pub returns-in-Err-Memory-clause-kept : goal.returns-in-Err-Memory-clause-kept
+returns-in-Err-Memory-clause-kept g c = task_untouched _ _ _
+
+pub returns-in-Err-Memory-clause-counts : goal.returns-in-Err-Memory-clause-counts
+returns-in-Err-Memory-clause-counts g c = came_same _

@@ -147,3 +147,7 @@ pub rose_complete : (held : Option (List ℕ)) (files : Files) (Read Write Rise 
     → IfSome held (λ input. length input ≤ most_input → AllTell files → ¬ Read → ¬ Write → ¬ Rise → Whole input)
 rose_complete None files Read Write Rise Whole rose = tt
 rose_complete (Some input) files Read Write Rise Whole rose = λ short tell quiet calm silent. absurd (quiet rose)
+
+-- a page's task is not a generated page's
+pub not_generated : (task : Option PlainTask) (base : Parts) (names : List (List ℕ)) (count : ℕ) → task ≡ Some (Page base names) → task ≡ Some (Generated count) → ⊥
+not_generated task base names count page generated = let both : Some (Page base names) ≡ Some (Generated count) = sym page ∙ generated in absurd (cc both)

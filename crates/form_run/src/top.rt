@@ -1,9 +1,9 @@
 // The top call.
-ghost use Rattle.std.specs.Prelude.{◌≡◌, ◌≢◌, ℕ, ◌+◌, ◌≤◌, ◌⊎◌, All, IfSome, IsSome, None, false, length, map, string_bytes, true};
+ghost use Rattle.std.specs.Prelude.{◌≡◌, ◌≢◌, ℕ, ◌+◌, ◌≤◌, ◌⊎◌, All, IfSome, IsSome, None, Some, false, length, map, string_bytes, true};
 ghost use Rattle.form_ports.specs.Ports.{Rose};
 ghost use Rattle.form_ports.specs.Shelf.{contents_of, numbers_of};
 ghost use Rattle.form_input.specs.Limits.{most_input, too_many};
-ghost use Rattle.form_input.specs.Words.{PlainTask, asks_generated, file_words, task_of};
+ghost use Rattle.form_input.specs.Words.{Generated, asks_generated, file_words, task_of};
 ghost use Rattle.form_run.specs.Ended.{AllTell, HasEnded, HasFilesUpTo, HasWritten, IsCompleteOf, IsPageOf, IsUnread, IsWhole};
 ghost use Rattle.form_run.specs.Endings.{NoneCame, SomeChanged, SomeFileRose};
 ghost use Rattle.form_run.specs.Transcript.{AreExpectedUpTo, IsEnd, IsSilent, IsUntouched, PageIs, WroteAll, WroteInputPart};
@@ -129,8 +129,11 @@ pub fn run<S: Source, K: Sink>(
         (numbers_of (λ b. (⟦<dyn Blob as Blob>⟧ b.vtable).faults b.value) shelf.new.items))
         result (K.written sink.old) (K.written sink.new) }
 
-    // No file is gone but those that were withdrawn so far, and none tells another content.
+    // No file is gone but those that were withdrawn so far, and none tells another content. No file is touched for a
+    // generated page.
     ensures untouched { IsUntouched result ≡ true → shelf.new.items ≡ shelf.old.items }
+    ensures generated { (count : ℕ) → task_of (map string_bytes words.now) ≡ Some (Generated count)
+        → shelf.new.items ≡ shelf.old.items }
     ensures kept { HasFilesUpTo (task_of (map string_bytes words.now)) (S.held source.old)
         (contents_of (λ b. content b) shelf.old.items) (contents_of (λ b. content b) shelf.new.items) }
     ensures counts { NoneCame (numbers_of (λ b. (⟦<dyn Blob as Blob>⟧ b.vtable).faults b.value) shelf.old.items)

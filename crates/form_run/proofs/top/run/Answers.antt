@@ -3,7 +3,7 @@ use Rattle.std.specs.Prelude.{string_bytes}
 use Rattle.std.proofs.lemmas.List.{length-map}
 use Rattle.form_input.proofs.Laws.{generated-count, page-names}
 use Rattle.form_run.proofs.FilesLaws.{came_same}
-use Rattle.form_run.proofs.Runs.{task_nothing, task_untouched}
+use Rattle.form_run.proofs.Runs.{not_generated, task_nothing, task_untouched}
 use Rattle.form_run.proofs.top.run.Goals as goal
 
 pub run_page-requires-clause-files : goal.run_page-requires-clause-files
@@ -32,3 +32,7 @@ returns-in-Err-Memory-clause-kept g c = task_untouched _ _ _
 
 pub returns-in-Err-Memory-clause-counts : goal.returns-in-Err-Memory-clause-counts
 returns-in-Err-Memory-clause-counts g c = came_same _
+
+pub returns-in-Ok-Page-clause-generated : goal.returns-in-Ok-Page-clause-generated
+returns-in-Ok-Page-clause-generated g c =
+    λ count same. absurd (not_generated _ _ _ count (rw (c.in-Ok-Page.is, c.in-Ok-Page.field-0-is) at c.task_of.ensures.ok) same)

@@ -7,7 +7,7 @@ use Rattle.std.proofs.lemmas.Str.{is_utf8-from_IsUtf8}
 use Rattle.form_text.specs.LineEnds.{with_lf}
 use Rattle.form_tree.specs.declared.node.Raw.{Raw}
 use Rattle.form_markup.specs.Answer.{answer_of}
-use Rattle.form_markup.specs.Spelling.{IsRead}
+use Rattle.form_markup.specs.Spelling.{IsRead, Spells}
 use Rattle.form_tokens.specs.declared.fault.Fault.TheVariants as faults
 use Rattle.form_markup.specs.declared.fault.PageFault.{PageFault}
 use Rattle.form_markup.specs.declared.fault.PageFault.TheVariants as pages
@@ -70,3 +70,15 @@ page_told input status h = go (is_utf8 input) refl
     go : (b : Bool) → is_utf8 input ≡ b → PageIs status input
     go true e = read (page_taken (answer_of [] (page_of input))) (tells (page_of input)) e (h ∙ ap end_of (page_in-text input e))
     go false e = subst (λ s. PageIs s input) (sym (h ∙ ap end_of (page_in-no_text input e))) (inl e)
+
+-- the elements of a page are those that its text spells
+pub page_spelled : (input : List ℕ) (raws : List Raw) → page_in input ≡ Ok raws → Spells [] (page_of input) raws
+page_spelled input raws taken = go (is_utf8 input) refl
+  where
+    read : (answer : Result (List Raw) PageFault) → IsRead [] (page_of input) answer → page_taken answer ≡ Ok raws → Spells [] (page_of input) raws
+    read (Ok found) is e = let same : found ≡ raws = cc in subst (λ rs. Spells [] (page_of input) rs) same is
+    read (Err fault) is e = absurd (cc)
+
+    go : (b : Bool) → is_utf8 input ≡ b → Spells [] (page_of input) raws
+    go true e = read (answer_of [] (page_of input)) (answer_read [] (page_of input)) (sym (page_in-text input e) ∙ taken)
+    go false e = let none : Err (utf8_line input) ≡ Ok raws = sym (page_in-no_text input e) ∙ taken in absurd (cc none)

@@ -1,9 +1,15 @@
 // The top call.
-ghost use Rattle.std.specs.Prelude.{◌≡◌, ◌≢◌, ℕ, ◌+◌, ◌≤◌, ◌⊎◌, All, IfSome, IsSome, None, Some, false, length, map, string_bytes, true};
+ghost use Rattle.std.specs.Prelude.{◌≡◌, ◌≢◌, ℕ, ◌+◌, ◌≤◌, ◌⊎◌, All, IfSome, IsSome, None, Some, false, length, List, Ok, map, string_bytes, true};
 ghost use Rattle.form_ports.specs.Ports.{Rose};
 ghost use Rattle.form_ports.specs.Shelf.{contents_of, numbers_of};
 ghost use Rattle.form_input.specs.Limits.{most_input, too_many};
 ghost use Rattle.form_input.specs.Words.{Generated, asks_generated, file_words, task_of};
+ghost use Rattle.url.specs.Parts.{Parts};
+ghost use Rattle.form_tree.specs.declared.node.Raw.{Raw};
+ghost use Rattle.form_acts.specs.Soundness.{IsSound};
+ghost use Rattle.form_run.specs.Replies.{session_after_all};
+ghost use Rattle.form_run.specs.Session.{opened};
+ghost use Rattle.form_run.specs.Taken.{page_in};
 ghost use Rattle.form_run.specs.Ended.{AllTell, HasEnded, HasFilesUpTo, HasWritten, IsCompleteOf, IsPageOf, IsUnread, IsWhole};
 ghost use Rattle.form_run.specs.Endings.{NoneCame, SomeChanged, SomeFileRose};
 ghost use Rattle.form_run.specs.Transcript.{AreExpectedUpTo, IsEnd, IsSilent, IsUntouched, PageIs, WroteAll, WroteInputPart};
@@ -97,6 +103,10 @@ pub fn run<S: Source, K: Sink>(
     ensures part { HasWritten (task_of (map string_bytes words.now)) (contents_of (λ b. content b) shelf.old.items)
         (S.held source.old) (K.written sink.old) (K.written sink.new) }
     ensures silent { IsSilent result ≡ true → K.written sink.new ≡ K.written sink.old }
+
+    // Whatever page is read, it is sound as it opens and after each command.
+    ensures sound { (input : List ℕ) (raws : List Raw) (base : Parts) (names lines : List (List ℕ)) → page_in input ≡ Ok raws
+        → IsSound (session_after_all (opened base raws names) lines).page }
 
     // With Done the input is UTF-8 and spells a page; with Page it is not UTF-8, or its page has a fault.
     ensures page { IsPageOf (task_of (map string_bytes words.now)) (S.held source.old) result }

@@ -4,6 +4,7 @@ use Rattle.std.proofs.lemmas.List.{length-map}
 use Rattle.form_input.proofs.Laws.{generated-count, page-names}
 use Rattle.form_run.proofs.FilesLaws.{came_same}
 use Rattle.form_run.proofs.Runs.{not_generated, task_nothing, task_untouched}
+use Rattle.form_run.proofs.SoundLaws.{run_sound}
 use Rattle.form_run.proofs.top.run.Goals as goal
 
 pub run_page-requires-clause-files : goal.run_page-requires-clause-files
@@ -36,3 +37,15 @@ returns-in-Err-Memory-clause-counts g c = came_same _
 pub returns-in-Ok-Page-clause-generated : goal.returns-in-Ok-Page-clause-generated
 returns-in-Ok-Page-clause-generated g c =
     λ count same. absurd (not_generated _ _ _ count (rw (c.in-Ok-Page.is, c.in-Ok-Page.field-0-is) at c.task_of.ensures.ok) same)
+
+pub returns-in-Ok-Page-clause-sound : goal.returns-in-Ok-Page-clause-sound
+returns-in-Ok-Page-clause-sound g c = run_sound
+
+pub returns-in-Ok-Generated-clause-sound : goal.returns-in-Ok-Generated-clause-sound
+returns-in-Ok-Generated-clause-sound g c = run_sound
+
+pub returns-in-Err-Usage-clause-sound : goal.returns-in-Err-Usage-clause-sound
+returns-in-Err-Usage-clause-sound g c = run_sound
+
+pub returns-in-Err-Memory-clause-sound : goal.returns-in-Err-Memory-clause-sound
+returns-in-Err-Memory-clause-sound g c = run_sound

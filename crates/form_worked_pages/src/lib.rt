@@ -1,5 +1,5 @@
-//! Worked pages: what the crates over a tree answer of pages that are written as text. It has tests
-//! alone, and nothing stands on it.
+//! Worked pages: what pages that are written as text are read into, what is seen of them, what changes,
+//! and their entry lists. It has tests alone, and nothing stands on it.
 #![tactic(auto)]
 
 #[cfg(test)]
@@ -9,14 +9,6 @@ mod lists;
 #[cfg(test)]
 mod markup;
 #[cfg(test)]
-mod owners;
-#[cfg(test)]
-mod pages;
-#[cfg(test)]
 mod seen;
-#[cfg(test)]
-mod selects;
-#[cfg(test)]
-mod trees;
 #[cfg(test)]
 mod views;

@@ -1,5 +1,5 @@
 -- The files that the entry list of a form names.
-use Rattle.std.proofs.Common.{◌≡◌, ℕ, List, [], ◌∷◌, ◌++◌, map, Option, refl, sym, ap, subst}
+use Rattle.std.proofs.Common.{◌≡◌, ℕ, List, [], ◌∷◌, map, Option, refl, sym, ap, subst}
 use Rattle.std.specs.Prelude.{All, filter, flat_map}
 use Rattle.std.proofs.lemmas.List.Elements.{All-append, All-head, All-nil, All-tail}
 use Rattle.std.proofs.lemmas.Grind.{flat_map-append}
@@ -12,7 +12,7 @@ use Rattle.form_ports.specs.Shelf.{IsThere}
 use Rattle.form_page.specs.Page.{Page}
 use Rattle.form_entries.specs.declared.gift.Gift.{Gift}
 use Rattle.form_entries.specs.declared.gift.Gift.TheVariants as gifts
-use Rattle.form_entries.specs.EntryList.{entries_by, entries_of, entry_list, file_entries, file_entry, gift_of, is_sent, name_in, option_entries, text_entry, value_text}
+use Rattle.form_entries.specs.EntryList.{entries_by, entries_of, entry_list, file_entries, file_entry, gift_of, is_sent, name_in, text_entry, value_text}
 use Rattle.form_parts.specs.Parts as multipart
 use Rattle.form_submit.specs.Outcome.{HasFiles}
 

@@ -8,5 +8,6 @@ mod OutcomeLaws
 mod PartsLaws
 mod PieceLaws
 mod RequestLaws
+mod RoomLaws
 mod SendLaws
 pub mod Laws

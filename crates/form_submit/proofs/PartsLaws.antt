@@ -1,41 +1,29 @@
 -- The parts of a multipart body, and the outcome that they lead to.
-use Rattle.std.proofs.Common.{◌≡◌, ℕ, zero, suc, ◌+◌, ◌-◌, ◌^◌, ◌<◌, ◌≤◌, Bool, true, false, cond, List, [], ◌∷◌, ◌++◌, length, map, replicate, Option, Some, None, IfSome, refl, sym, ap}
-use Rattle.std.proofs.Common.{subst, ◌∙◌, inl, inr, arith, append-nil}
-use Rattle.std.specs.Prelude.{All, Contains, nat_lt, flat_map, sum}
+use Rattle.std.proofs.Common.{◌≡◌, ℕ, suc, ◌+◌, ◌-◌, ◌<◌, ◌≤◌, cond, List, [], ◌∷◌, ◌++◌, length, map, replicate, Option, Some, None, IfSome, refl, sym, ap}
+use Rattle.std.proofs.Common.{subst, ◌∙◌, arith}
+use Rattle.std.specs.Prelude.{Contains, flat_map, sum}
 use Rattle.std.specs.List.{AllZip, zip}
-use Rattle.std.specs.Option.{option_and_then}
-use Rattle.std.proofs.lemmas.Bool.{lt-ltb, le-ltb, ltb-true}
+use Rattle.std.proofs.lemmas.Bool.{lt-ltb}
 use Rattle.std.proofs.lemmas.List.{length-replicate, length-map}
-use Rattle.std.proofs.lemmas.List.Elements.{All-append, All-cons, All-head, All-nil, All-tail, length_all_zip}
 use Rattle.std.proofs.lemmas.List.Sums.{sum_by-cons}
-use Rattle.std.proofs.lemmas.Grind.{flat_map-append}
 use Rattle.url.specs.Parts.{Parts}
 use Rattle.form_text.specs.LineEnds.{with_crlf}
 use Rattle.form_encode.specs.declared.entry.Entry.{Entry}
 use Rattle.form_encode.specs.declared.entry.Given.{Given}
 use Rattle.form_encode.specs.declared.entry.Given.TheVariants.{Text, File}
 use Rattle.form_encode.specs.Boundaries.{first_free}
-use Rattle.form_encode.specs.Multipart.{closing_line, head_of}
-use Rattle.form_encode.specs.PlainText.{crlf}
-use Rattle.form_ports.specs.Shelf.{IsThere, at_number, HasTold, LastSizes, Passes, told, total}
+use Rattle.form_ports.specs.Shelf.{at_number, HasTold, Passes, told, total}
 use Rattle.form_entries.specs.EntryList.{entries_length, most_bytes}
 use Rattle.form_parts.specs.declared.parts.Parts as answers
 use Rattle.form_parts.specs.Parts as multipart
 use Rattle.form_submit.specs.declared.outcome.Outcome.{Outcome}
 use Rattle.form_submit.specs.declared.outcome.Outcome.TheVariants as outcomes
 use Rattle.form_submit.specs.declared.outcome.Why.TheVariants as whys
-use Rattle.form_submit.specs.declared.request.Piece.{Piece}
-use Rattle.form_submit.specs.declared.request.Piece.TheVariants as pieces
-use Rattle.form_submit.specs.declared.request.Request.{Request}
 use Rattle.form_submit.specs.declared.route.Direct.{Direct}
-use Rattle.form_submit.specs.declared.route.Direct.TheVariants as directs
 use Rattle.form_submit.specs.declared.route.Route.{Route}
 use Rattle.form_submit.specs.declared.route.Route.TheVariants as routes
-use Rattle.form_submit.specs.declared.route.Way.{Way}
-use Rattle.form_submit.specs.declared.route.Way.TheVariants as ways
-use Rattle.form_submit.specs.Outcome.{IfLong, IfRequest, IsOutcomeBy, files_read, IsTooLong, chosen, direct_outcome, listed_request, multipart_outcome, multipart_pieces, part_pieces}
-use Rattle.form_submit.specs.Outcome.{parts_pieces, unless_long, value_piece}
-use Rattle.form_submit.specs.PrintedRequest.{IsReady, IsSendable, file_number, file_numbers, file_size, file_sizes}
+use Rattle.form_submit.specs.Outcome.{IsOutcomeBy, files_read, chosen, direct_outcome, multipart_outcome}
+use Rattle.form_submit.specs.Outcome.{unless_long}
 
 abbrev Contents : Type 0
 Contents = List (Option (Option (List ℕ)))

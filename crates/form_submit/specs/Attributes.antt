@@ -1,6 +1,6 @@
 -- How a form is submitted: its attributes, and those of its submitter (HTML, "Form submission attributes").
-use Rattle.std.specs.Prelude.{ℕ, ◌||◌, Bool, false, List, [], Option, Some, None, codes, is_some, unwrap_or, if◌then◌else◌}
-use Rattle.std.specs.Option.{option_and_then, option_map_or, option_or}
+use Rattle.std.specs.Prelude.{ℕ, ◌||◌, Bool, List, [], Option, Some, None, codes, is_some, unwrap_or, if◌then◌else◌}
+use Rattle.std.specs.Option.{option_and_then, option_or}
 use Rattle.std.specs.Str.{str_eq_ignore_ascii_case}
 use Rattle.form_tree.specs.declared.node.Key.{Key}
 use Rattle.form_tree.specs.Tree.{Nodes, attr_of}

@@ -4,7 +4,6 @@ use Rattle.std.specs.List.{AllZip}
 use Rattle.std.specs.Option.{option_and_then}
 use Rattle.url.specs.Parts.{Parts, serialize}
 use Rattle.url.specs.Setters.{set_query}
-use Rattle.form_tree.specs.declared.node.Key.{Key}
 use Rattle.form_tree.specs.Tree.{Nodes}
 use Rattle.form_encode.specs.declared.entry.Entry.{Entry}
 use Rattle.form_encode.specs.declared.entry.Given.{Given}
@@ -17,8 +16,7 @@ use Rattle.form_encode.specs.PlainText.{crlf, plain_text}
 use Rattle.form_encode.specs.Urlencoded.{urlencoded_text}
 use Rattle.form_text.specs.LineEnds.{with_crlf}
 use Rattle.form_ports.specs.Shelf.{IsThere, at_number, total}
-use Rattle.form_page.specs.Page.{Page}
-use Rattle.form_entries.specs.EntryList.{entries_length, entry_list, most_bytes}
+use Rattle.form_entries.specs.EntryList.{entries_length, most_bytes}
 use Rattle.form_parts.specs.Parts as multipart
 use Rattle.form_submit.specs.declared.outcome.Outcome.{Outcome}
 use Rattle.form_submit.specs.declared.outcome.Outcome.TheVariants as outcomes
@@ -32,7 +30,6 @@ use Rattle.form_submit.specs.declared.route.Route.{Route}
 use Rattle.form_submit.specs.declared.route.Route.TheVariants as routes
 use Rattle.form_submit.specs.declared.route.Way.{Way}
 use Rattle.form_submit.specs.declared.route.Way.TheVariants as ways
-use Rattle.form_submit.specs.Route.{route_of}
 
 -- ---- requests
 

@@ -3,7 +3,8 @@ ghost use Rattle.std.specs.Prelude.{◌≡◌, ◌≤◌, ◌<◌, ◌-◌, ◌+
 ghost use Rattle.std.specs.Io.KnownBytes.{append_known};
 ghost use Rattle.form_ports.specs.Ports.{Rose};
 ghost use Rattle.form_ports.specs.Written.{WrotePart};
-ghost use Rattle.form_submit.specs.PrintedRequest.{piece_size, printed_data, printed_body};
+ghost use Rattle.form_submit.specs.PrintedRequest.{data_lines, piece_size, printed_data, printed_body};
+ghost use Rattle.form_submit.specs.Room.{IsRoom, kept_in};
 ghost use Rattle.form_submit.specs.Sending.{Gathers, GathersPart};
 
 use crate::parts::write_data;
@@ -13,19 +14,26 @@ use std::marker::Model;
 // How many bytes a printed piece has, but for the last one.
 const PIECE_SIZE: usize = 1_024;
 
-/// The bytes of a body that are not printed yet.
+// How many bytes stand before those of such a piece, where it is printed.
+const HEAD_SIZE: usize = 10;
+
+// How many bytes a piece has as it is printed.
+const ROOM: usize = HEAD_SIZE + PIECE_SIZE + 1;
+
+/// The bytes of a body that are not printed yet. They stand in a room between what is printed before
+/// and behind a whole piece, so that such a piece is one write.
 #[derive(Drop)]
 pub struct Gatherer {
-    room: [u8; PIECE_SIZE],
+    room: [u8; ROOM],
     kept: usize,
 }
 
 impl Model for Gatherer {
     ghost Value = { List ℕ };
 
-    ghost view = { λ g. take g.kept g.room };
+    ghost view = { λ g. kept_in g.kept g.room };
 
-    ghost invariant = { λ g. g.kept ≤ piece_size };
+    ghost invariant = { λ g. IsRoom g.kept g.room };
 }
 
 impl Gatherer {
@@ -33,10 +41,9 @@ impl Gatherer {
     pub fn new() -> Gatherer
         ensures { result ≡ [] }
     {
-        Gatherer {
-            room: [0; PIECE_SIZE],
-            kept: 0,
-        }
+        let mut room = [b'\n'; ROOM];
+        room[..HEAD_SIZE].copy_from_slice(b"data 1024\n");
+        Gatherer { room, kept: 0 }
     }
 
     // The bytes that are kept.
@@ -44,7 +51,15 @@ impl Gatherer {
         ensures bytes { result.now ≡ self.now }
         ensures room { length self.now ≤ piece_size }
     {
-        &self.room[..self.kept]
+        &self.room[HEAD_SIZE..HEAD_SIZE + self.kept]
+    }
+
+    // The lines of what is kept, which is a whole piece.
+    fn lines(&self) -> &[u8]
+        requires whole { length self.now ≡ piece_size }
+        ensures { result.now ≡ data_lines self.now }
+    {
+        &self.room
     }
 
     // Keeps none any more.
@@ -61,7 +76,8 @@ impl Gatherer {
         ensures room { length self.old ≤ piece_size }
     {
         let count = usize::min(PIECE_SIZE - self.kept, bytes.len());
-        self.room[self.kept..self.kept + count].copy_from_slice(&bytes[..count]);
+        let start = HEAD_SIZE + self.kept;
+        self.room[start..start + count].copy_from_slice(&bytes[..count]);
         self.kept += count;
         count
     }
@@ -76,7 +92,7 @@ impl Gatherer {
     {
         let kept = self.bytes();
         if kept.len() == PIECE_SIZE {
-            write_data(sink, kept)?;
+            write_all(sink, self.lines())?;
             self.clear();
         }
         Ok(())

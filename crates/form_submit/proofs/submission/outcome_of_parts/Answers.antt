@@ -1,4 +1,4 @@
-use Rattle.std.proofs.Common.{◌≡◌, List, ℕ, Err, length, refl, ap, ◌∙◌, arith}
+use Rattle.std.proofs.Common.{List, ℕ, Err, length, refl, ap, ◌∙◌, arith}
 use Rattle.form_submit.proofs.PartsLaws.{HasParts-length, Outcome-passes}
 use Rattle.form_submit.proofs.PieceLaws.{IfRequest-sendable, IfRequest-sizes}
 use Rattle.form_submit.proofs.submission.outcome_of_parts.Goals as goal

@@ -7,7 +7,7 @@ use Rattle.form_changes.specs.declared.act.Act.{Act}
 use Rattle.form_changes.specs.declared.act.ActFault.{ActFault}
 use Rattle.form_acts.specs.Acts.{outcome}
 use Rattle.form_acts.specs.Refusals.{refusal_of}
-use Rattle.form_run.specs.Replies.{act_reply, ok_line, refusal_word, refused_line, seen_lines}
+use Rattle.form_replies.specs.Replies.{act_reply, ok_line, refusal_word, refused_line, seen_lines}
 
 module _ (page : Page) (act : Act) where
   -- of one that is done

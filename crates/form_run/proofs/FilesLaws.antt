@@ -22,10 +22,12 @@ use Rattle.form_acts.specs.Soundness.{IsSound, IsWithin}
 use Rattle.form_submit.specs.Outcome.{HasFiles}
 use Rattle.form_submit.specs.Sending.{IsChanged}
 use Rattle.form_submit.specs.declared.request.Piece.{Piece}
+use Rattle.form_replies.proofs.Laws.{contents_without}
+use Rattle.form_replies.specs.Withdrawn.{withdrawn_by, without_all, without_number}
 use Rattle.form_run.specs.declared.asked.Asked.{Asked}
 use Rattle.form_run.specs.declared.asked.Asked.TheVariants as asks
 use Rattle.form_run.specs.Endings.{AreFiles, EachStays, NoneCame, SomeChanged, SomeFileRose}
-use Rattle.form_run.specs.Session.{Files, Session, opened, page_after, session_after, without_all, without_number, withdrawn, withdrawn_by, withdrawn_unless}
+use Rattle.form_run.specs.Session.{Files, Session, opened, page_after, session_after, withdrawn, withdrawn_unless}
 
 -- ---- as the run begins
 
@@ -150,14 +152,6 @@ withdrawn_done page act none = ap (λ refusal. withdrawn_unless refusal act) non
 -- and one that is refused, nothing
 pub withdrawn_refused : (page : Page) (act : Act) (fault : ActFault) → refusal_of page act ≡ Some fault → withdrawn page (asks.Act act) ≡ None
 withdrawn_refused page act fault refused = ap (λ refusal. withdrawn_unless refusal act) refused
-
--- the contents without a file are those of the shelf without it
-pub contents_without : {B : Type 0} (content : B → Option (List ℕ)) (shelf : List (Option B)) (number : Option ℕ)
-    → contents_of content (without_all shelf number) ≡ without_all (contents_of content shelf) number
-unfolding contents_of
-contents_without content shelf None = refl
-contents_without content shelf (Some zero) = refl
-contents_without content shelf (Some (suc place)) = map-set (λ file. option_map content file) shelf place None
 
 -- ---- submissions
 
@@ -299,13 +293,6 @@ changed_some content position shelf old pieces a b same changed =
       stands = now.stands;
       differs = now.differs;
     }
-
--- ---- the shelf without a file
-
--- the place of a number that is there holds none then
-pub set_without : {X : Type 0} (files : List (Option X)) (number : ℕ) → 1 ≤ number → set files (number - 1) None ≡ without_number files number
-set_without files zero from_one = absurd (omega arith)
-set_without files (suc place) from_one = let e : suc place - 1 ≡ place = omega arith in ap (λ at. set files at None) e
 
 -- ---- what acts and lines leave of the files
 

@@ -13,7 +13,8 @@ use Rattle.form_markup.specs.declared.fault.PageFault.{PageFault}
 use Rattle.form_markup.specs.declared.fault.PageFault.TheVariants as pages
 use Rattle.form_markup.proofs.AnswerLaws.{answer_never, answer_read}
 use Rattle.form_input.specs.Input.{page_text}
-use Rattle.form_run.specs.Taken.{bad_page_line, page_in, page_of, page_taken, utf8_line}
+use Rattle.form_replies.specs.PageLines.{bad_page_line}
+use Rattle.form_run.specs.Taken.{page_in, page_of, page_taken, utf8_line}
 use Rattle.form_run.specs.Transcript.{HasFault, PageIs, SpellsPage, end_of, expected_end}
 use Rattle.form_run.specs.declared.status.Status.{Status}
 use Rattle.form_input.proofs.Laws.{is_utf8-not}

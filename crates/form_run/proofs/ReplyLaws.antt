@@ -30,10 +30,11 @@ use Rattle.form_submit.specs.declared.route.Way.TheVariants as ways
 use Rattle.form_submit.specs.Outcome.{IfRequest, IsOutcomeBy, chosen, direct_outcome, listed_request, multipart_outcome, outcome_by, parts_pieces, value_piece}
 use Rattle.form_submit.specs.PrintedRequest.{IsPart, IsReady, IsSendable, printed_request}
 use Rattle.form_submit.specs.Route.{route_of}
+use Rattle.form_replies.specs.Replies.{ok_line, stopped_lines}
 use Rattle.form_run.specs.declared.asked.Asked.{Asked}
 use Rattle.form_run.specs.declared.asked.Asked.TheVariants as asks
 use Rattle.form_run.specs.declared.asked.Submission.{Submission}
-use Rattle.form_run.specs.Replies.{AreReplies, IsOutcomeText, IsReply, IsReplyTo, IsRequestText, IsSubmissionReply, files_after_all, none_line, ok_line, session_after_all, stopped_lines}
+use Rattle.form_run.specs.Replies.{AreReplies, IsOutcomeText, IsReply, IsReplyTo, IsRequestText, IsSubmissionReply, files_after_all, none_line, session_after_all}
 use Rattle.form_run.specs.Session.{Files, Session, after, asked_in, files_after}
 
 module _ (files : Files) where

@@ -10,15 +10,16 @@ use Rattle.form_tree.specs.declared.node.Raw.{Raw}
 use Rattle.form_input.specs.Input.{command_lines}
 use Rattle.form_input.specs.Limits.{most_input}
 use Rattle.form_input.specs.Moved.{Gave}
+use Rattle.form_replies.specs.Withdrawn.{without_all, without_number}
 use Rattle.form_run.specs.declared.status.Status.{Status}
 use Rattle.form_run.specs.declared.status.Status.TheVariants as ends
 use Rattle.form_input.specs.Words.{PlainTask, Generated, Page}
 use Rattle.form_ports.proofs.Laws.{append_known-nil}
 use Rattle.form_run.specs.Counting.{generated_text}
-use Rattle.form_run.specs.Ended.{AllTell, HasFilesUpTo, HasWritten, IsWhole}
+use Rattle.form_run.specs.Ended.{AllTell, HasFilesUpTo, HasWritten, IsCompleteOf, IsWhole}
 use Rattle.form_run.specs.Endings.{SomeChanged}
 use Rattle.form_run.specs.Replies.{files_after_all}
-use Rattle.form_run.specs.Session.{Files, Session, after, asked_in, files_after, opened, withdrawn, without_all, without_number}
+use Rattle.form_run.specs.Session.{Files, Session, after, asked_in, files_after, opened, withdrawn}
 use Rattle.form_run.specs.Taken.{page_in}
 use Rattle.form_run.specs.Transcript.{AreExpectedUpTo, AreFilesSoFar, IsEnd, IsWritingEnd, PageIs, WroteInput, WroteInputPart, expected_end}
 use Rattle.form_run.proofs.FilesLaws.{other_place}
@@ -147,6 +148,19 @@ pub rose_complete : (held : Option (List ℕ)) (files : Files) (Read Write Rise 
     → IfSome held (λ input. length input ≤ most_input → AllTell files → ¬ Read → ¬ Write → ¬ Rise → Whole input)
 rose_complete None files Read Write Rise Whole rose = tt
 rose_complete (Some input) files Read Write Rise Whole rose = λ short tell quiet calm silent. absurd (quiet rose)
+
+-- nor of one that had no memory
+pub memory_whole : (held : Option (List ℕ)) (files : Files) (Read Write Rise : Type 0) (status : Status) (Whole : List ℕ → Type 0) → status ≡ ends.Memory
+    → IfSome held (λ input. length input ≤ most_input → AllTell files → ¬ Read → ¬ Write → ¬ Rise → (status ≡ ends.Memory) ⊎ Whole input)
+memory_whole None files Read Write Rise status Whole is = tt
+memory_whole (Some input) files Read Write Rise status Whole is = λ short tell quiet calm silent. inl is
+
+pub memory_complete : (task : Option PlainTask) (files : Files) (held left : Option (List ℕ)) (Read Write Rise : Type 0) (status : Status) (written now : Option (List ℕ)) → status ≡ ends.Memory
+    → IsCompleteOf task files held left Read Write Rise status written now
+memory_complete None files held left Read Write Rise status written now is = inr is
+memory_complete (Some (Page base names)) files held left Read Write Rise status written now is =
+    memory_whole held files Read Write Rise status (λ input. IsWhole files base names input status left written now) is
+memory_complete (Some (Generated count)) files held left Read Write Rise status written now is = λ calm. inl is
 
 -- a page's task is not a generated page's
 pub not_generated : (task : Option PlainTask) (base : Parts) (names : List (List ℕ)) (count : ℕ) → task ≡ Some (Page base names) → task ≡ Some (Generated count) → ⊥

@@ -12,11 +12,12 @@ use Rattle.form_submit.specs.declared.request.Request.{Request}
 use Rattle.form_submit.specs.Outcome.{IfRequest}
 use Rattle.form_submit.specs.PrintedRequest.{IsSendable, printed_request}
 use Rattle.form_submit.specs.Sending.{WroteRequest, WroteRequestPart}
+use Rattle.form_replies.specs.Replies.{ok_line}
+use Rattle.form_replies.specs.Saying.{Said, SaidPart}
 use Rattle.form_run.specs.declared.asked.Asked.{Asked}
 use Rattle.form_run.specs.declared.asked.Asked.TheVariants as asks
 use Rattle.form_run.specs.declared.asked.Submission.{Submission}
-use Rattle.form_run.specs.Replies.{IsOutcomeText, IsReplyTo, IsRequestText, IsSubmissionReply, IsSubmitted, ok_line}
-use Rattle.form_run.specs.Saying.{Said, SaidPart}
+use Rattle.form_run.specs.Replies.{IsOutcomeText, IsReplyTo, IsRequestText, IsSubmissionReply, IsSubmitted}
 use Rattle.form_run.specs.Session.{Files, Session}
 use Rattle.form_run.proofs.ReplyLaws.{some_outcome, some_reply, some_sendable, some_submission, submission_reply}
 

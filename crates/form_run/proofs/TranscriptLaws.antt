@@ -8,16 +8,17 @@ use Rattle.form_pending.specs.Saying.{Says, SaysPart}
 use Rattle.form_pending.proofs.Laws.{part_longer, part_nothing, said_part, said_whole}
 use Rattle.form_ports.proofs.Laws.{append_known-nil}
 use Rattle.form_input.specs.Input.{command_lines}
+use Rattle.form_replies.specs.Saying.{Said, SaidPart}
+use Rattle.form_replies.specs.PageLines.{page_line}
+use Rattle.form_replies.specs.declared.stop.Stop.{Stop}
+use Rattle.form_replies.specs.declared.stop.Stop.TheVariants as stops
+use Rattle.form_replies.proofs.Laws.{says_part, says_said}
 use Rattle.form_run.specs.Replies.{AreReplies}
-use Rattle.form_run.specs.Saying.{Said, SaidPart}
 use Rattle.form_run.specs.Session.{Files, opened}
 use Rattle.form_run.specs.Taken.{page_in}
-use Rattle.form_run.specs.Transcript.{AreExpectedUpTo, AreFilesSoFar, IsExpected, IsTranscript, IsEnd, WroteInput, WroteInputPart, expected_end, expected_files, files_at_end, page_line, status_of}
+use Rattle.form_run.specs.Transcript.{AreExpectedUpTo, AreFilesSoFar, IsExpected, IsTranscript, IsEnd, WroteInput, WroteInputPart, expected_end, expected_files, files_at_end, status_of}
 use Rattle.form_run.specs.declared.status.Status.{Status}
-use Rattle.form_run.specs.declared.stop.Stop.{Stop}
-use Rattle.form_run.specs.declared.stop.Stop.TheVariants as stops
 use Rattle.form_run.proofs.ReplyLaws.{no_files, some_replies}
-use Rattle.form_run.proofs.ServedLaws.{says_part, says_said}
 
 module _ (files : Files) (base : Parts) (names : List (List ℕ)) (lines : List (List ℕ)) where
   -- an input has a text

@@ -13,12 +13,12 @@ use Rattle.form_acts.specs.Acts.{outcome}
 use Rattle.form_acts.specs.Refusals.{refusal_of}
 use Rattle.form_generator.specs.Counts.{counts_text}
 use Rattle.form_generator.specs.Generator.{generated_lines, generated_page}
+use Rattle.form_replies.specs.PageLines.{fault_line}
 use Rattle.form_run.specs.declared.asked.Asked.{Asked}
 use Rattle.form_run.specs.declared.asked.Asked.TheVariants as asks
 use Rattle.form_run.specs.declared.status.Status.{Status}
 use Rattle.form_run.specs.declared.status.Status.TheVariants as statuses
 use Rattle.form_run.specs.Session.{asked_in, page_after}
-use Rattle.form_run.specs.Taken.{fault_line}
 
 -- ---- one line
 

@@ -1,30 +1,9 @@
 -- Why a run stops before its end, and what is known of its files then.
-use Rattle.std.specs.Prelude.{◌≡◌, ◌≢◌, ℕ, ◌≤◌, Bool, true, false, List, [], ◌∷◌, Option, Some, None, ⊤}
+use Rattle.std.specs.Prelude.{◌≡◌, ◌≢◌, ℕ, ◌≤◌, true, List, [], ◌∷◌, Option, Some, None, ⊤}
 use Rattle.form_ports.specs.Shelf.{FileRose, IsThere, at_number, told}
-use Rattle.form_pending.specs.declared.fault.SayFault.{SayFault}
-use Rattle.form_pending.specs.declared.fault.SayFault.TheVariants as says
 use Rattle.form_page.specs.declared.file.File.{File}
 use Rattle.form_acts.specs.Refusals.{is_file_there}
-use Rattle.form_run.specs.declared.stop.Stop.{Stop}
-use Rattle.form_run.specs.declared.stop.Stop.TheVariants as stops
 use Rattle.form_run.specs.Session.{Files}
-
--- the stop of a text that was not said
-abbrev pub by_saying : SayFault → Stop
-by_saying says.Sink = stops.WriteFault
-by_saying says.Memory = stops.Memory
-
--- a stop that saying a text may have
-abbrev pub is_writing : Stop → Bool
-is_writing stops.WriteFault = true
-is_writing stops.Memory = true
-is_writing stop = false
-
--- a stop that reading files may have
-abbrev pub is_reading : Stop → Bool
-is_reading stops.FileFault = true
-is_reading stops.Memory = true
-is_reading stop = false
 
 -- each file that the page has stands on the shelf
 pub record AreFiles (contents : Files) (files : List File) : Type 0 where

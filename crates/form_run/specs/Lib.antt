@@ -1,6 +1,5 @@
 pub mod Asking
 pub mod Session
-pub mod Saying
 pub mod Endings
 pub mod Replies
 pub mod Counting

@@ -1,16 +1,11 @@
 -- The replies to the lines of a script.
-use Rattle.std.specs.Prelude.{◌≡◌, ℕ, List, [], ◌∷◌, ◌++◌, flat_map, codes, Option, Some, None, unwrap_or}
-use Rattle.std.specs.Option.{option_map_or}
-use Rattle.form_tree.specs.declared.node.Key.{Key}
+use Rattle.std.specs.Prelude.{◌≡◌, ℕ, List, [], ◌∷◌, ◌++◌, codes}
 use Rattle.form_page.specs.Page.{Page}
-use Rattle.form_page.specs.Views.{changes, flags_of_key}
-use Rattle.form_changes.specs.declared.act.ActFault.{ActFault}
-use Rattle.form_changes.specs.declared.act.ActFault.TheVariants as faults
+use Rattle.form_page.specs.Views.{changes}
 use Rattle.form_acts.specs.Acts.{outcome}
 use Rattle.form_acts.specs.Refusals.{refusal_of}
 use Rattle.form_entries.specs.EntryList.{entry_list}
 use Rattle.form_input.specs.Lines.{with_end}
-use Rattle.form_script.specs.Printed.{flag_words, key_text, view_line}
 use Rattle.form_submit.specs.declared.outcome.Outcome.{Outcome}
 use Rattle.form_submit.specs.declared.outcome.Outcome.TheVariants as outcomes
 use Rattle.form_submit.specs.declared.outcome.Why.{Why}
@@ -19,22 +14,13 @@ use Rattle.form_submit.specs.declared.request.Request.{Request}
 use Rattle.form_submit.specs.Outcome.{IsOutcomeBy}
 use Rattle.form_submit.specs.PrintedRequest.{IsBody, printed_request}
 use Rattle.form_submit.specs.Route.{route_of}
+use Rattle.form_replies.specs.Replies.{act_reply, ok_line, refusal_word, refused_line, seen_line, stopped_lines}
 use Rattle.form_run.specs.declared.asked.Asked.{Asked}
 use Rattle.form_run.specs.declared.asked.Asked.TheVariants as asks
 use Rattle.form_run.specs.declared.asked.Submission.{Submission}
 use Rattle.form_run.specs.Session.{Files, Session, after, asked_in, files_after}
 
--- ---- words
-
--- the word for why a command is refused; want of memory has none
-abbrev pub refusal_word : ActFault → List ℕ
-refusal_word faults.NoElement = codes "no-element"
-refusal_word faults.WrongKind = codes "wrong-kind"
-refusal_word faults.Immutable = codes "immutable"
-refusal_word faults.Email = codes "email"
-refusal_word faults.NoFile = codes "no-file"
-refusal_word faults.Limit = codes "limit"
-refusal_word faults.Memory = []
+-- ---- a submission that makes no request
 
 -- the word for why a submission makes no request
 abbrev pub why_word : Why → List ℕ
@@ -43,35 +29,6 @@ why_word whys.Action = codes "action"
 why_word whys.Scheme = codes "scheme"
 why_word whys.Long = codes "long"
 why_word whys.Clash = codes "clash"
-
--- ---- lines
-
--- the line of a command that is done
-abbrev pub ok_line : List ℕ
-ok_line = with_end (codes "ok")
-
--- the line of a command that is refused
-abbrev pub refused_line : List ℕ → List ℕ
-refused_line word = codes "refused " ++ with_end word
-
--- the line of what is seen of an element; of another one, nothing
-abbrev pub seen_line : Page → Key → List ℕ
-seen_line page key = unwrap_or (view_line page key) []
-
-abbrev pub seen_lines : Page → List Key → List ℕ
-seen_lines page keys = flat_map (seen_line page) keys
-
--- the words of an element's flags
-abbrev pub words_of_key : Page → Key → List ℕ
-words_of_key page key = option_map_or flag_words (flags_of_key page key) []
-
--- the line of a control that stops a submission
-abbrev pub invalid_line : Page → Key → List ℕ
-invalid_line page key = codes "invalid " ++ (key_text key ++ (codes " " ++ with_end (words_of_key page key)))
-
--- the lines of a submission that is stopped
-abbrev pub stopped_lines : Page → List Key → List ℕ
-stopped_lines page keys = codes "stopped\n" ++ flat_map (invalid_line page) keys
 
 -- the line of a submission that makes no request
 abbrev pub none_line : Why → List ℕ
@@ -106,11 +63,6 @@ pub record IsSubmissionReply (files : Files) (session : Session) (s : Submission
   pub whole : text ≡ lines ++ ok_line
 
 -- ---- replies
-
--- the reply to an act, after which the page is such and these elements are seen to differ
-abbrev pub act_reply : Option ActFault → Page → List Key → List ℕ
-act_reply None page keys = seen_lines page keys ++ ok_line
-act_reply (Some fault) page keys = refused_line (refusal_word fault)
 
 -- the reply to what a line asks for
 abbrev pub IsReplyTo : Files → Session → Asked → List ℕ → Type 0

@@ -1,5 +1,5 @@
 -- What a run keeps from line to line, and what each line makes of it.
-use Rattle.std.specs.Prelude.{◌==◌, ℕ, zero, suc, ◌≤◌, Bool, true, false, List, [], ◌∷◌, length, codes, All, ⊤, Option, Some, None, set}
+use Rattle.std.specs.Prelude.{◌==◌, ℕ, ◌≤◌, Bool, true, false, List, [], ◌∷◌, length, codes, All, ⊤, Option, Some, None}
 use Rattle.url.specs.Parts.{Parts}
 use Rattle.form_encode.specs.Boundaries.{longest_boundary}
 use Rattle.form_tree.specs.declared.node.Raw.{Raw}
@@ -13,6 +13,7 @@ use Rattle.form_acts.specs.Refusals.{refusal_of}
 use Rattle.form_input.specs.Lines.{without_cr}
 use Rattle.form_script.specs.declared.command.Command.{Command}
 use Rattle.form_script.specs.LineReading.{command_of}
+use Rattle.form_replies.specs.Withdrawn.{withdrawn_by, without_all}
 use Rattle.form_run.specs.declared.asked.Asked.{Asked}
 use Rattle.form_run.specs.declared.asked.Asked.TheVariants as asks
 use Rattle.form_run.specs.Asking.{asked}
@@ -80,20 +81,6 @@ after session line = session_after session (asked_in session.page line)
 -- what is told of the files of a run: the content of each, where there is one and where it tells it
 abbrev pub Files : Type 0
 Files = List (Option (Option (List ℕ)))
-
--- the files without the one of that number; numbers are counted from 1
-abbrev pub without_number : {X : Type 0} → List (Option X) → ℕ → List (Option X)
-without_number files zero = files
-without_number files (suc place) = set files place None
-
-abbrev pub without_all : {X : Type 0} → List (Option X) → Option ℕ → List (Option X)
-without_all files None = files
-without_all files (Some number) = without_number files number
-
--- the number of the file that an act withdraws
-abbrev pub withdrawn_by : Act → Option ℕ
-withdrawn_by (acts.Withdraw number) = Some number
-withdrawn_by act = None
 
 abbrev pub withdrawn_unless : Option ActFault → Act → Option ℕ
 withdrawn_unless None act = withdrawn_by act

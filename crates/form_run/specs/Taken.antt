@@ -1,30 +1,13 @@
 -- The elements of an input's page, or the line that says why it is refused.
-use Rattle.std.specs.Prelude.{◌≡◌, ℕ, List, [], ◌++◌, codes, string_bytes, Result, Ok, Err, if◌then◌else◌}
-use Rattle.std.specs.Fmt.{decimal}
+use Rattle.std.specs.Prelude.{ℕ, List, [], codes, Result, Ok, Err, if◌then◌else◌}
 use Rattle.std.specs.Str.{is_utf8}
 use Rattle.std.specs.Str.Lossy.{utf8_valid_len}
 use Rattle.form_text.specs.LineEnds.{with_lf}
 use Rattle.form_tree.specs.declared.node.Raw.{Raw}
 use Rattle.form_markup.specs.Answer.{answer_of}
 use Rattle.form_markup.specs.declared.fault.PageFault.{PageFault}
-use Rattle.form_markup.specs.declared.fault.PageFault.TheVariants as pages
-use Rattle.form_input.specs.Lines.{line_then}
 use Rattle.form_input.specs.Input.{page_text}
-use Rattle.form_run.specs.declared.taken.PageStop.{PageStop}
-use Rattle.form_run.specs.declared.taken.PageStop.TheVariants as stops
-
--- the line of a page that is refused: the kind and the place of its fault
-abbrev pub bad_page_line : List ℕ → ℕ → List ℕ
-bad_page_line kind place = codes "bad page " ++ (kind ++ (codes " " ++ line_then (decimal place) []))
-
--- the line of a page's fault; that memory was refused is no fault of the page
-abbrev pub fault_line : PageFault → List ℕ
-fault_line (pages.Lexical place) = bad_page_line (codes "lexical") place
-fault_line (pages.Limit place) = bad_page_line (codes "limit") place
-fault_line (pages.Element place) = bad_page_line (codes "element") place
-fault_line (pages.Email place) = bad_page_line (codes "email") place
-fault_line (pages.Nesting place) = bad_page_line (codes "nesting") place
-fault_line pages.Memory = []
+use Rattle.form_replies.specs.PageLines.{bad_page_line, fault_line}
 
 -- the line of an input that is not UTF-8; the place is the length of its longest front that is
 abbrev pub utf8_line : List ℕ → List ℕ
@@ -42,8 +25,3 @@ page_of input = with_lf (page_text input)
 -- the elements of an input's page, or the line; the whole input is tested to be UTF-8
 unfoldable pub page_in : List ℕ → Result (List Raw) (List ℕ)
 page_in input = if is_utf8 input then page_taken (answer_of [] (page_of input)) else Err (utf8_line input)
-
--- a call that refuses the page gave its line, or there was no memory
-abbrev pub IsStop : PageStop → Result (List Raw) (List ℕ) → Type 0
-IsStop stops.Memory page = Unit {0}
-IsStop (stops.Refused line) page = page ≡ Err (string_bytes line)

@@ -1,6 +1,5 @@
 -- What a run writes, how it ends, and what its files are then.
-use Rattle.std.specs.Prelude.{◌≡◌, ℕ, List, [], ◌++◌, length, codes, Bool, true, false, Option, Result, Ok, Err, ◌⊎◌, ⊤}
-use Rattle.std.specs.Fmt.{decimal}
+use Rattle.std.specs.Prelude.{◌≡◌, ℕ, List, [], ◌++◌, length, Bool, true, false, Option, Result, Ok, Err, ◌⊎◌, ⊤}
 use Rattle.std.specs.Str.{is_utf8}
 use Rattle.std.specs.Io.KnownBytes.{append_known, IsAtEnd}
 use Rattle.url.specs.Parts.{Parts}
@@ -9,22 +8,18 @@ use Rattle.form_tree.specs.declared.node.Raw.{Raw}
 use Rattle.form_markup.specs.Spelling.{IsFault, Spells}
 use Rattle.form_tokens.specs.declared.fault.Fault.{Fault}
 use Rattle.form_input.specs.Input.{command_lines}
-use Rattle.form_input.specs.Lines.{line_then}
 use Rattle.form_input.specs.Moved.{Gave}
+use Rattle.form_replies.specs.PageLines.{page_line}
+use Rattle.form_replies.specs.declared.stop.Stop.{Stop}
+use Rattle.form_replies.specs.declared.stop.Stop.TheVariants as stops
 use Rattle.form_run.specs.Counting.{generated_end, generated_text}
 use Rattle.form_run.specs.Replies.{AreFilesUpTo, AreReplies, files_after_all}
 use Rattle.form_run.specs.Session.{Files, opened}
 use Rattle.form_run.specs.Taken.{page_in, page_of}
 use Rattle.form_run.specs.declared.status.Status.{Status}
 use Rattle.form_run.specs.declared.status.Status.TheVariants as ends
-use Rattle.form_run.specs.declared.stop.Stop.{Stop}
-use Rattle.form_run.specs.declared.stop.Stop.TheVariants as stops
 
 -- ---- the transcript
-
--- the line of a page that is read: how many elements it has
-abbrev pub page_line : ℕ → List ℕ
-page_line count = codes "page " ++ line_then (decimal count) []
 
 -- the transcript of a page, or of the line that refuses it, and of lines
 abbrev pub IsTranscript : Files → Parts → List (List ℕ) → List (List ℕ) → Result (List Raw) (List ℕ) → List ℕ → Type 0

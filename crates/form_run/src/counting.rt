@@ -13,13 +13,13 @@ ghost use Rattle.form_run.specs.Transcript.{IsEnd, WroteCounts, is_generated_end
 use crate::asked::Asked;
 use crate::session::hear;
 use crate::status::Status;
-use crate::taken::{PageStop, bad_page_at};
 use form_acts::{Act, ActFault, apply};
 use form_generator::{Counts, generate, print_counts};
 use form_judge::Steps;
 use form_markup::read;
 use form_page::Page;
 use form_ports::{Sink, write_all};
+use form_replies::{PageStop, bad_page_at};
 use form_tree::{Key, Raw};
 use std::alloc::{AllocError, Global};
 use std::sync::ledger::{Blank, Ledger};

@@ -6,8 +6,8 @@
 //! `serve` says the reply to one line; `serve_all` folds over the lines and never names a command;
 //! `transcribe` reads the page and says the transcript of an input; and `run` reads first.
 //!
-//! What is said is kept until there is much of it (`form_pending`). It is written before a file is
-//! read or a request is printed, and at each ending.
+//! The texts are those of `form_replies`. What is said is kept until there is much of it
+//! (`form_pending`); it is written before a file is read or a request is printed, and at each ending.
 //!
 //! A command to come is a variant of `Asked`, a case in `asked_of` and a case in the one `match` of
 //! `serve_asked`, each beside its definition in `specs/`.
@@ -15,12 +15,10 @@
 
 mod asked;
 mod counting;
-mod files;
 mod running;
 mod serving;
 mod session;
 mod status;
-mod stop;
 mod taken;
 mod texts;
 mod top;

@@ -3,16 +3,16 @@ ghost use Rattle.std.specs.Prelude.{◌≡◌, ℕ, ◌≤◌, Err, OnOk};
 ghost use Rattle.form_ports.specs.Ports.{Rose};
 ghost use Rattle.form_ports.specs.Shelf.{contents_of, numbers_of};
 ghost use Rattle.form_input.specs.Lines.{lines_of};
+ghost use Rattle.form_replies.specs.Saying.{Said, SaidPart};
 ghost use Rattle.form_run.specs.Endings.{AreFiles, NoneCame, SomeChanged, SomeFileRose};
 ghost use Rattle.form_run.specs.Replies.{AreFilesUpTo, AreReplies, files_after_all};
-ghost use Rattle.form_run.specs.Saying.{Said, SaidPart};
 
 use crate::serving::serve;
 use crate::session::Session;
-use crate::stop::Stop;
 use form_input::first_line;
 use form_judge::Steps;
 use form_ports::{Blob, Sink};
+use form_replies::Stop;
 use std::alloc::Global;
 use std::sync::ledger::Ledger;
 

@@ -1,5 +1,5 @@
 // The reply to a line.
-ghost use Rattle.std.specs.Prelude.{◌≡◌, ℕ, ◌≤◌, [], Err, IfErr, IfOk, OnErr, OnOk, true};
+ghost use Rattle.std.specs.Prelude.{◌≡◌, ℕ, ◌≤◌, Err, IfErr, IfOk, OnErr, OnOk, true};
 ghost use Rattle.form_ports.specs.Ports.{Rose};
 ghost use Rattle.form_ports.specs.Shelf.{NoneFell, contents_of, numbers_of};
 ghost use Rattle.form_pending.specs.Saying.{Says, SaysPart};
@@ -8,57 +8,30 @@ ghost use Rattle.form_acts.specs.Refusals.{refusal_of};
 ghost use Rattle.form_page.specs.Views.{changes};
 ghost use Rattle.form_submit.specs.Outcome.{IfRequest};
 ghost use Rattle.form_submit.specs.PrintedRequest.{IsSendable};
+ghost use Rattle.form_replies.specs.Stops.{is_reading, is_writing};
+ghost use Rattle.form_replies.specs.Replies.{act_reply};
+ghost use Rattle.form_replies.specs.Saying.{Said, SaidPart};
+ghost use Rattle.form_replies.specs.Withdrawn.{without_all};
 ghost use Rattle.form_run.specs.declared.asked.Asked.TheVariants as asks;
-ghost use Rattle.form_run.specs.Endings.{AreFiles, NoneCame, SomeChanged, SomeFileRose, is_reading, is_writing};
-ghost use Rattle.form_run.specs.Replies.{IsOutcomeText, IsReply, IsReplyTo, IsRequestText, IsSubmissionReply, IsSubmitted, act_reply, refused_line};
-ghost use Rattle.form_run.specs.Saying.{Said, SaidPart};
-ghost use Rattle.form_run.specs.Session.{HasShortBoundaries, after, files_after, session_after, without_all, withdrawn};
+ghost use Rattle.form_run.specs.Endings.{AreFiles, NoneCame, SomeChanged, SomeFileRose};
+ghost use Rattle.form_run.specs.Replies.{IsOutcomeText, IsReply, IsReplyTo, IsRequestText, IsSubmissionReply, IsSubmitted};
+ghost use Rattle.form_run.specs.Session.{HasShortBoundaries, after, files_after, session_after, withdrawn};
 
 use crate::asked::{Asked, Submission};
-use crate::files::{withdraw, withdrawn_by};
 use crate::session::{Session, hear};
-use crate::stop::Stop;
-use crate::texts::{done_text, none_line, refusal_word, refused_line, shown_text, stopped_lines};
+use crate::texts::none_line;
 use form_acts::{Act, ActFault};
 use form_judge::Steps;
 use form_page::Page;
-use form_pending::{flush, say};
+use form_pending::flush;
 use form_ports::{Blob, Sink};
+use form_replies::{
+    Stop, done_text, flush_before_files, refusal_word, say_refused, say_text, shown_text,
+    stopped_lines, withdraw, withdrawn_by,
+};
 use form_submit::{Outcome, Request, SendFault, SubmitFault, write_request};
 use std::alloc::Global;
 use std::sync::ledger::Ledger;
-
-/// Says a text.
-pub fn say_text<K: Sink>(text: &str, pending: &mut Vec<u8>, sink: &mut K) -> Result<(), Stop>
-    ensures said { OnOk result
-        (Says (K.written sink.old) (K.written sink.new) pending.old.items pending.new.items text.now) }
-    ensures part { SaysPart (K.written sink.old) (K.written sink.new) pending.old.items pending.new.items text.now }
-    ensures kind { IfErr result (λ stop. is_writing stop ≡ true) }
-    ensures write_fault { result ≡ Err Stop.WriteFault → Rose (K.faults sink.old) (K.faults sink.new) }
-    ensures later { K.faults sink.old ≤ K.faults sink.new }
-{
-    say(text.as_bytes(), pending, sink)?;
-    Ok(())
-}
-
-// Says that a command is refused.
-fn say_refused<K: Sink>(
-    alloc: Global,
-    word: &str,
-    pending: &mut Vec<u8>,
-    sink: &mut K,
-) -> Result<(), Stop>
-    ensures said { OnOk result
-        (Says (K.written sink.old) (K.written sink.new) pending.old.items pending.new.items (refused_line word.now)) }
-    ensures part { SaysPart (K.written sink.old) (K.written sink.new) pending.old.items pending.new.items
-        (refused_line word.now) }
-    ensures kind { IfErr result (λ stop. is_writing stop ≡ true) }
-    ensures write_fault { result ≡ Err Stop.WriteFault → Rose (K.faults sink.old) (K.faults sink.new) }
-    ensures later { K.faults sink.old ≤ K.faults sink.new }
-{
-    let line = refused_line(alloc, word)?;
-    say_text(line.as_str(), pending, sink)
-}
 
 // ---- submissions
 
@@ -154,24 +127,6 @@ fn outcome_of(
         Err(SubmitFault::Blob) => Err(Stop::FileFault),
         Err(SubmitFault::Memory) => Err(Stop::Memory),
     }
-}
-
-// Writes what is kept, before a file may be read.
-fn flush_before_files<K: Sink>(
-    pending: &mut Vec<u8>,
-    shelf: &[Option<Box<dyn Blob>>],
-    sink: &mut K,
-) -> Result<(), Stop>
-    ensures said { OnOk result (Says (K.written sink.old) (K.written sink.new) pending.old.items pending.new.items []) }
-    ensures part { SaysPart (K.written sink.old) (K.written sink.new) pending.old.items pending.new.items [] }
-    ensures kind { OnErr result (result ≡ Err Stop.WriteFault) }
-    ensures write_fault { OnErr result (Rose (K.faults sink.old) (K.faults sink.new)) }
-    ensures later { K.faults sink.old ≤ K.faults sink.new }
-{
-    if !shelf.is_empty() {
-        flush(pending, sink)?;
-    }
-    Ok(())
 }
 
 // Submits a form, and says what comes of it.

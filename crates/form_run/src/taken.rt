@@ -5,47 +5,16 @@ ghost use Rattle.form_text.specs.LineEnds.{with_lf};
 ghost use Rattle.form_acts.specs.Soundness.{IsOpenable};
 ghost use Rattle.form_input.specs.Input.{command_lines};
 ghost use Rattle.form_input.specs.Lines.{lines_of};
-ghost use Rattle.form_run.specs.Taken.{IsStop, bad_page_line, fault_line, page_in, page_taken};
+ghost use Rattle.form_replies.specs.PageLines.{IsStop};
+ghost use Rattle.form_run.specs.Taken.{page_in, page_taken};
 
 use form_input::split_script;
-use form_markup::{PageFault, read};
+use form_markup::read;
+use form_replies::{PageStop, bad_page, bad_page_at};
 use form_text::normalise_lf;
 use form_tree::Raw;
 use std::alloc::Global;
 use std::str::from_utf8;
-
-/// Why there are no elements.
-#[derive(Debug, Drop)]
-pub enum PageStop {
-    /// The page is refused; the line says why.
-    Refused(String),
-    Memory,
-}
-
-// The line of a page that is refused: the kind and the place of its fault.
-fn bad_page(alloc: Global, kind: &str, place: usize) -> PageStop
-    ensures { IsStop result (Err (bad_page_line kind.now place)) }
-{
-    match format!(in alloc; "bad page {} {}\n", kind, place) {
-        Ok(line) => PageStop::Refused(line),
-        Err(_) => PageStop::Memory,
-    }
-}
-
-/// The line of a page's fault.
-pub fn bad_page_at(alloc: Global, fault: PageFault) -> PageStop
-    ensures line { IsStop result (Err (fault_line fault)) }
-    ensures memory { fault ≡ PageFault.Memory → result ≡ PageStop.Memory }
-{
-    match fault {
-        PageFault::Lexical(place) => bad_page(alloc, "lexical", place),
-        PageFault::Limit(place) => bad_page(alloc, "limit", place),
-        PageFault::Element(place) => bad_page(alloc, "element", place),
-        PageFault::Email(place) => bad_page(alloc, "email", place),
-        PageFault::Nesting(place) => bad_page(alloc, "nesting", place),
-        PageFault::Memory => PageStop::Memory,
-    }
-}
 
 // The elements of a page's text.
 fn take_page(alloc: Global, page: &str) -> Result<Vec<Raw>, PageStop>

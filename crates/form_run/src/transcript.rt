@@ -4,30 +4,23 @@ ghost use Rattle.form_ports.specs.Ports.{Rose};
 ghost use Rattle.form_ports.specs.Shelf.{contents_of, numbers_of};
 ghost use Rattle.form_acts.specs.Soundness.{IsOpenable};
 ghost use Rattle.form_input.specs.Lines.{lines_of};
+ghost use Rattle.form_replies.specs.Saying.{Said, SaidPart};
+ghost use Rattle.form_replies.specs.PageLines.{page_line};
 ghost use Rattle.form_run.specs.Endings.{NoneCame, SomeChanged, SomeFileRose};
-ghost use Rattle.form_run.specs.Saying.{Said, SaidPart};
-ghost use Rattle.form_run.specs.Transcript.{AreExpectedUpTo, AreFilesSoFar, IsEnd, IsExpected, IsTranscript, IsWritingEnd, WroteInput, WroteInputPart, expected_end, expected_files, files_at_end, page_line, status_of};
+ghost use Rattle.form_run.specs.Transcript.{AreExpectedUpTo, AreFilesSoFar, IsEnd, IsExpected, IsTranscript, IsWritingEnd, WroteInput, WroteInputPart, expected_end, expected_files, files_at_end, status_of};
 
 use crate::running::serve_all;
-use crate::serving::say_text;
 use crate::session::Session;
 use crate::status::Status;
-use crate::stop::Stop;
-use crate::taken::{PageStop, page_of_input};
+use crate::taken::page_of_input;
 use form_judge::Steps;
 use form_pending::{ROOM, flush};
 use form_ports::{Blob, Sink};
+use form_replies::{PageStop, Stop, page_line, say_text};
 use form_tree::Raw;
-use std::alloc::{AllocError, Global};
+use std::alloc::Global;
 use std::sync::ledger::{Blank, Ledger};
 use url::Url;
-
-// The line of a page that is read.
-fn page_line(alloc: Global, count: usize) -> Result<String, AllocError>
-    ensures { IfOk result (λ line. string_bytes line ≡ page_line count) }
-{
-    format!(in alloc; "page {}\n", count)
-}
 
 // Says the transcript of a page and its commands.
 fn say_page<K: Sink, L: Ledger>(

@@ -1,7 +1,8 @@
 use Rattle.std.proofs.Common.{arith}
 use Rattle.std.proofs.lemmas.Result.{err_from_is_err_and}
+use Rattle.form_replies.proofs.Laws.{part_of_said}
 use Rattle.form_run.proofs.FilesLaws.{came_same, came_then, rose_later}
-use Rattle.form_run.proofs.ServedLaws.{part_of_said, served_all, served_all_files, served_files, served_kept, served_more, served_part, served_start}
+use Rattle.form_run.proofs.ServedLaws.{served_all, served_all_files, served_files, served_kept, served_more, served_part, served_start}
 use Rattle.form_run.proofs.running.serve_all.Goals as goal
 
 pub lines-init : goal.lines-init

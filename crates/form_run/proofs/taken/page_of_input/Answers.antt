@@ -1,5 +1,5 @@
 use Rattle.std.proofs.Common.{sym, subst, ◌∙◌}
-use Rattle.form_run.specs.Taken.{IsStop}
+use Rattle.form_replies.specs.PageLines.{IsStop}
 use Rattle.form_run.proofs.PageLaws.{no-text, text-page}
 use Rattle.form_run.proofs.taken.page_of_input.Goals as goal
 

@@ -1,9 +1,9 @@
-use Rattle.std.proofs.Common.{map, sym, ◌∙◌}
+use Rattle.std.proofs.Common.{map, refl, sym, ◌∙◌}
 use Rattle.std.specs.Prelude.{string_bytes}
 use Rattle.std.proofs.lemmas.List.{length-map}
 use Rattle.form_input.proofs.Laws.{generated-count, page-names}
 use Rattle.form_run.proofs.FilesLaws.{came_same}
-use Rattle.form_run.proofs.Runs.{not_generated, task_nothing, task_untouched}
+use Rattle.form_run.proofs.Runs.{memory_complete, not_generated, task_nothing, task_untouched}
 use Rattle.form_run.proofs.SoundLaws.{run_sound}
 use Rattle.form_run.proofs.top.run.Goals as goal
 
@@ -24,6 +24,12 @@ returns-in-Ok-Generated-clause-counts g c = came_same _
 
 pub returns-in-Err-Usage-clause-counts : goal.returns-in-Err-Usage-clause-counts
 returns-in-Err-Usage-clause-counts g c = came_same _
+
+pub returns-in-Err-Memory-clause-usage : goal.returns-in-Err-Memory-clause-usage
+returns-in-Err-Memory-clause-usage g c = λ e. absurd (cc e)
+
+pub returns-in-Err-Memory-clause-complete : goal.returns-in-Err-Memory-clause-complete
+returns-in-Err-Memory-clause-complete g c = memory_complete _ _ _ _ _ _ _ _ _ _ refl
 
 pub returns-in-Err-Memory-clause-part : goal.returns-in-Err-Memory-clause-part
 returns-in-Err-Memory-clause-part g c = task_nothing _ _ _ _

@@ -1,6 +1,6 @@
-use Rattle.std.proofs.Common.{Err, ap, ◌∙◌}
+use Rattle.std.proofs.Common.{Err, ap, refl, ◌∙◌}
 use Rattle.form_run.proofs.FilesLaws.{came_same}
-use Rattle.form_run.proofs.Runs.{of_any, of_input, page_of_end, rose_complete, whole_or_memory}
+use Rattle.form_run.proofs.Runs.{memory_whole, of_any, of_input, page_of_end, rose_complete, whole_or_memory}
 use Rattle.form_run.proofs.TranscriptLaws.{input_untouched, wrote_nothing}
 use Rattle.form_run.proofs.top.run_page.Goals as goal
 
@@ -33,6 +33,15 @@ returns-in-Err-TooLong-clause-kept g c = of_any _ _ (λ input. input_untouched _
 
 pub returns-in-Err-TooLong-clause-counts : goal.returns-in-Err-TooLong-clause-counts
 returns-in-Err-TooLong-clause-counts g c = came_same _
+
+pub returns-clause-read_fault : goal.returns-clause-read_fault
+returns-clause-read_fault g c = λ e. absurd (cc e)
+
+pub returns-clause-too_long : goal.returns-clause-too_long
+returns-clause-too_long g c = λ e. absurd (cc e)
+
+pub returns-clause-complete : goal.returns-clause-complete
+returns-clause-complete g c = memory_whole _ _ _ _ _ _ _ refl
 
 pub returns-clause-part : goal.returns-clause-part
 returns-clause-part g c = of_any _ _ (λ input. wrote_nothing _ _ _ _ _)

@@ -1,6 +1,6 @@
 ghost use Rattle.std.specs.Prelude.{◌≡◌};
-ghost use Rattle.form_run.specs.Endings.{by_saying};
-ghost use Rattle.form_run.specs.declared.stop.Stop.TheVariants.{Memory, WriteFault};
+ghost use Rattle.form_replies.specs.Stops.{by_saying};
+ghost use Rattle.form_replies.specs.declared.stop.Stop.TheVariants.{Memory, WriteFault};
 
 use form_pending::SayFault;
 use std::alloc::AllocError;

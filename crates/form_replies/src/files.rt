@@ -1,9 +1,9 @@
 // Files that are withdrawn.
 ghost use Rattle.std.specs.Prelude.{◌≡◌, IfSome};
 ghost use Rattle.form_ports.specs.Shelf.{IsThere, contents_of};
-ghost use Rattle.form_run.specs.Session.{without_all, withdrawn_by};
+ghost use Rattle.form_replies.specs.Withdrawn.{without_all, withdrawn_by};
 
-use form_acts::Act;
+use form_changes::Act;
 use form_ports::Blob;
 
 /// The number of the file that an act withdraws.

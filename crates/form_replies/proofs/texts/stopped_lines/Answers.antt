@@ -1,8 +1,8 @@
 use Rattle.std.proofs.Common.{arith}
 use Rattle.std.specs.Prelude.{codes}
-use Rattle.form_run.specs.Replies.{invalid_line}
-use Rattle.form_run.proofs.CountLaws.{texts_all, texts_more}
-use Rattle.form_run.proofs.texts.stopped_lines.Goals as goal
+use Rattle.form_replies.specs.Replies.{invalid_line}
+use Rattle.form_replies.proofs.TextLaws.{texts_all, texts_more}
+use Rattle.form_replies.proofs.texts.stopped_lines.Goals as goal
 
 pub loop-key-preserved : goal.loop-key-preserved
 loop-key-preserved c =

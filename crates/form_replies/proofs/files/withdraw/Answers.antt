@@ -1,8 +1,8 @@
 use Rattle.std.proofs.Common.{ap, sym, ◌∙◌}
 use Rattle.form_ports.proofs.Laws.{IsThere-from_one, IsThere-within}
-use Rattle.form_run.specs.Session.{without_all}
-use Rattle.form_run.proofs.FilesLaws.{set_without}
-use Rattle.form_run.proofs.files.withdraw.Goals as goal
+use Rattle.form_replies.specs.Withdrawn.{without_all}
+use Rattle.form_replies.proofs.WithdrawnLaws.{set_without}
+use Rattle.form_replies.proofs.files.withdraw.Goals as goal
 
 pub overflow_sub-number : goal.overflow_sub-number
 overflow_sub-number g c = IsThere-from_one _ _ (rw c.in-Some.is at c.requires)

@@ -1,7 +1,7 @@
 use Rattle.std.proofs.Common.{◌≡◌, [], ◌++◌, take}
 use Rattle.std.specs.Prelude.{flat_map, string_bytes}
-use Rattle.form_run.specs.Replies.{seen_line}
-use Rattle.form_run.proofs.texts.done_text.Given as goal
+use Rattle.form_replies.specs.Replies.{seen_line}
+use Rattle.form_replies.proofs.texts.done_text.Given as goal
 
 -- the lines of the keys so far
 abbrev pub invariant-loop-key : goal.invariant-loop-key

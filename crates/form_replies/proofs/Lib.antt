@@ -1,0 +1,4 @@
+pub mod Laws
+pub mod SaidLaws
+pub mod TextLaws
+pub mod WithdrawnLaws

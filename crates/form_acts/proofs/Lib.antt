@@ -11,6 +11,7 @@ mod Groups
 pub mod Laws
 mod Marks
 mod Moves
+mod NamedFiles
 mod NearRows
 mod OneElement
 mod OpenedSound

@@ -56,6 +56,11 @@ module _ (P : ℕ → Type 0) (page : Page) (at : ℕ × ℕ) where
       (by_gift n (gift_of page.tree.nodes form submitter n) (All-head Q n elements all))
       (by_elements form submitter elements (All-tail Q n elements all)))
 
+-- what holds of each file that an element names holds of each that the entry list names
+pub named_all : (P : ℕ → Type 0) (page : Page) (form : Key) (submitter : Option Key) (at : ℕ × ℕ) → All (λ n. All P n.state.files) page.tree.nodes
+    → All P (multipart.file_numbers (entry_list page form submitter at))
+named_all P page form submitter at all = by_elements P page at form submitter page.tree.nodes all
+
 -- each file that the entry list names stands on the shelf
 pub named_there : (contents : List (Option (Option (List ℕ)))) (page : Page) (form : Key) (submitter : Option Key) (at : ℕ × ℕ) (entries : List Entry)
     → entries ≡ entry_list page form submitter at → HasFiles contents page.tree.nodes

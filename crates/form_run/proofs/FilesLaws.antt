@@ -1,5 +1,5 @@
 -- The files of a run: where they stand, which are withdrawn, and their counts.
-use Rattle.std.proofs.Common.{◌≡◌, ℕ, zero, suc, ◌-◌, ◌≤◌, ◌==◌, Bool, true, false, not, List, [], ◌∷◌, Option, Some, None, map, set, length, refl, sym, ap, subst, ◌∙◌, arith, IfSome, Result, Ok, Err, OnOk, OnErr}
+use Rattle.std.proofs.Common.{◌≡◌, ℕ, zero, suc, ◌≤◌, ◌==◌, Bool, true, false, not, List, [], ◌∷◌, Option, Some, None, map, set, length, refl, sym, ap, subst, ◌∙◌, arith, IfSome, Result, Ok, Err, OnOk, OnErr}
 use Rattle.std.specs.Prelude.{All, IsSome, is_some, option_map, slice_get, if◌then◌else◌}
 use Rattle.std.specs.Option.{option_and_then}
 use Rattle.std.proofs.lemmas.Bool.Decides.{nat_tests}

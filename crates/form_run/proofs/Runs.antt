@@ -85,10 +85,10 @@ tell_after_all session files (line ∷ lines) tell =
     tell_after_all (after session line) (files_after session.page files line) lines
     (tell_after files (withdrawn session.page (asked_in session.page line)) tell)
 
-tell_so_far : (base : Parts) (names lines : List (List ℕ)) (page : Result (List Raw) (List ℕ)) (old new : Files)
-    → AreFilesSoFar base names lines page old new → AllTell old → AllTell new
-tell_so_far base names lines (Err line) old new same tell = subst AllTell (sym same) tell
-tell_so_far base names lines (Ok raws) old new are tell =
+tell_so_far : {B : Type 0} (base : Parts) (names lines : List (List ℕ)) (page : Result (List Raw) (List ℕ)) (old new : Files) (shelf rest : List (Option B))
+    → AreFilesSoFar base names lines page old new shelf rest → AllTell old → AllTell new
+tell_so_far base names lines (Err line) old new shelf rest same tell = subst AllTell (sym same.0) tell
+tell_so_far base names lines (Ok raws) old new shelf rest are tell =
     subst AllTell (sym are.is) (tell_after_all (opened base raws names) old are.front tell)
 
 -- ---- ends
@@ -99,10 +99,10 @@ none_changed files positions a b tell changed =
     let P : Option (List ℕ) → Type 0 = IsSome in
     false≢true (subst P changed.untold (tell changed.number changed.there))
 
-module _ (old new : Files) (base : Parts) (names : List (List ℕ)) (input : List ℕ) (positions : List (Option ℕ)) (left written now : Option (List ℕ)) (Write Rise : Type 0) where
+module _ {B : Type 0} (old new : Files) (shelf rest : List (Option B)) (base : Parts) (names : List (List ℕ)) (input : List ℕ) (positions : List (Option ℕ)) (left written now : Option (List ℕ)) (Write Rise : Type 0) where
   -- without a fault the whole transcript was written, or memory was refused
   pub whole_or_memory : (status : Status) → IsWritingEnd status ≡ true → IsAtEnd left → (IsEnd status ≡ true → WroteInput old base names input status written now)
-      → AreExpectedUpTo base names input old new → (status ≡ ends.WriteFault → Write) → (status ≡ ends.FileFault → Rise)
+      → AreExpectedUpTo base names input old new shelf rest → (status ≡ ends.WriteFault → Write) → (status ≡ ends.FileFault → Rise)
       → ((a b : ℕ) → status ≡ ends.FileChanged a b → SomeChanged new positions a b)
       → AllTell old → ¬ Write → ¬ Rise → (status ≡ ends.Memory) ⊎ IsWhole old base names input status left written now
   whole_or_memory ends.Done kind at_end wrote kept write rise changed tell calm silent = inr (record { at_end = at_end; whole = wrote refl })
@@ -111,7 +111,7 @@ module _ (old new : Files) (base : Parts) (names : List (List ℕ)) (input : Lis
   whole_or_memory ends.FileFault kind at_end wrote kept write rise changed tell calm silent = absurd (silent (rise refl))
   whole_or_memory ends.Memory kind at_end wrote kept write rise changed tell calm silent = inl refl
   whole_or_memory (ends.FileChanged a b) kind at_end wrote kept write rise changed tell calm silent =
-      absurd (none_changed new positions a b (tell_so_far base names (command_lines input) (page_in input) old new kept tell) (changed a b refl))
+      absurd (none_changed new positions a b (tell_so_far base names (command_lines input) (page_in input) old new shelf rest kept tell) (changed a b refl))
   whole_or_memory ends.Usage kind at_end wrote kept write rise changed tell calm silent = absurd (cc kind)
   whole_or_memory ends.ReadFault kind at_end wrote kept write rise changed tell calm silent = absurd (cc kind)
   whole_or_memory ends.TooLong kind at_end wrote kept write rise changed tell calm silent = absurd (cc kind)
@@ -138,10 +138,11 @@ task_nothing (Some (Generated count)) files held written =
     record { front = []; rest = generated_text count; whole = refl; bytes = append_known-nil written }
 
 -- no file went
-pub task_untouched : (task : Option PlainTask) (held : Option (List ℕ)) (files : Files) → HasFilesUpTo task held files files
-task_untouched None held files = refl
-task_untouched (Some (Page base names)) held files = of_any held (λ input. AreExpectedUpTo base names input files files) (λ input. input_untouched files base names input)
-task_untouched (Some (Generated count)) held files = refl
+pub task_untouched : {B : Type 0} (task : Option PlainTask) (held : Option (List ℕ)) (files : Files) (shelf : List (Option B)) → HasFilesUpTo task held files files shelf shelf
+task_untouched None held files shelf = refl
+task_untouched (Some (Page base names)) held files shelf =
+    of_any held (λ input. AreExpectedUpTo base names input files files shelf shelf) (λ input. input_untouched files base names input shelf)
+task_untouched (Some (Generated count)) held files shelf = refl
 
 -- nothing is asked of a run whose source failed
 pub rose_complete : (held : Option (List ℕ)) (files : Files) (Read Write Rise : Type 0) (Whole : List ℕ → Type 0) → Read

@@ -13,11 +13,13 @@ use Rattle.form_replies.specs.PageLines.{page_line}
 use Rattle.form_replies.specs.declared.stop.Stop.{Stop}
 use Rattle.form_replies.specs.declared.stop.Stop.TheVariants as stops
 use Rattle.form_replies.proofs.Laws.{says_part, says_said}
+use Rattle.form_run.specs.Chosen.{chosen_in}
 use Rattle.form_run.specs.Replies.{AreReplies}
 use Rattle.form_run.specs.Session.{Files, opened}
 use Rattle.form_run.specs.Taken.{page_in}
 use Rattle.form_run.specs.Transcript.{AreExpectedUpTo, AreFilesSoFar, IsExpected, IsTranscript, IsEnd, WroteInput, WroteInputPart, expected_end, expected_files, files_at_end, status_of}
 use Rattle.form_run.specs.declared.status.Status.{Status}
+use Rattle.form_run.proofs.ChosenLaws.{stay_same}
 use Rattle.form_run.proofs.ReplyLaws.{no_files, some_replies}
 
 module _ (files : Files) (base : Parts) (names : List (List ℕ)) (lines : List (List ℕ)) where
@@ -62,9 +64,15 @@ module _ (files : Files) (base : Parts) (names : List (List ℕ)) (lines : List 
       (λ more are. (more, are, refl)) says said
 
   -- as long as no line is served the files are as before
-  pub files_untouched : (page : Result (List Raw) (List ℕ)) → AreFilesSoFar base names lines page files files
-  files_untouched (Err line) = refl
-  files_untouched (Ok raws) = record { front = []; rest = lines; whole = refl; is = no_files (opened base raws names) files }
+  pub files_untouched : {B : Type 0} (shelf : List (Option B)) (page : Result (List Raw) (List ℕ)) → AreFilesSoFar base names lines page files files shelf shelf
+  files_untouched shelf (Err line) = (refl, refl)
+  files_untouched shelf (Ok raws) = record {
+    front = [];
+    rest = lines;
+    whole = refl;
+    is = no_files (opened base raws names) files;
+    others = stay_same (chosen_in (opened base raws names) []) shelf;
+  }
 
 -- ---- an input
 
@@ -86,10 +94,10 @@ module _ (files : Files) (base : Parts) (names : List (List ℕ)) (input : List 
   pub input_files : (new : Files) → new ≡ files_at_end base names commands page files → new ≡ expected_files base names input files
   input_files new is = is ∙ ap (λ ls. files_at_end base names ls page files) lines ∙ ap (λ p. files_at_end base names (command_lines input) p files) (sym taken)
 
-  pub input_so_far : (new : Files) → AreFilesSoFar base names commands page files new → AreExpectedUpTo base names input files new
-  input_so_far new are =
-      let at_lines : AreFilesSoFar base names (command_lines input) page files new = subst (λ ls. AreFilesSoFar base names ls page files new) lines are in
-      subst (λ p. AreFilesSoFar base names (command_lines input) p files new) (sym taken) at_lines
+  pub input_so_far : {B : Type 0} (new : Files) (shelf left : List (Option B)) → AreFilesSoFar base names commands page files new shelf left → AreExpectedUpTo base names input files new shelf left
+  input_so_far new shelf left are =
+      let at_lines : AreFilesSoFar base names (command_lines input) page files new shelf left = subst (λ ls. AreFilesSoFar base names ls page files new shelf left) lines are in
+      subst (λ p. AreFilesSoFar base names (command_lines input) p files new shelf left) (sym taken) at_lines
 
 -- the line of a page that is refused is all that is said
 pub refused_said : (files : Files) (base : Parts) (names : List (List ℕ)) (input line : List ℕ) → page_in input ≡ Err line → IsExpected files base names input line
@@ -104,8 +112,8 @@ pub input_nothing : (files : Files) (base : Parts) (names : List (List ℕ)) (in
     → SaidPart (IsExpected files base names input) written written kept kept
 input_nothing files base names input written kept = page_nothing files base names (command_lines input) written kept (page_in input)
 
-pub input_untouched : (files : Files) (base : Parts) (names : List (List ℕ)) (input : List ℕ) → AreExpectedUpTo base names input files files
-input_untouched files base names input = files_untouched files base names (command_lines input) (page_in input)
+pub input_untouched : {B : Type 0} (files : Files) (base : Parts) (names : List (List ℕ)) (input : List ℕ) (shelf : List (Option B)) → AreExpectedUpTo base names input files files shelf shelf
+input_untouched files base names input shelf = files_untouched files base names (command_lines input) shelf (page_in input)
 
 -- ---- what is written at the end
 

@@ -1,5 +1,5 @@
 -- What a run that was asked for a task did, by the end that it answered.
-use Rattle.std.specs.Prelude.{◌≡◌, ℕ, ◌≤◌, List, length, true, false, Option, Some, None, IfSome, IsSome, ◌⊎◌, ⊤}
+use Rattle.std.specs.Prelude.{◌≡◌, ℕ, ◌≤◌, All, List, length, true, false, Option, Some, None, IfSome, IsSome, ◌⊎◌, ⊤}
 use Rattle.std.specs.Io.KnownBytes.{IsAtEnd}
 use Rattle.url.specs.Parts.{Parts}
 use Rattle.form_ports.specs.Shelf.{IsThere, told}
@@ -8,7 +8,7 @@ use Rattle.form_input.specs.Limits.{most_input}
 use Rattle.form_input.specs.Words.{PlainTask, Generated, Page}
 use Rattle.form_run.specs.Counting.{generated_text}
 use Rattle.form_run.specs.Session.{Files}
-use Rattle.form_run.specs.Transcript.{AreExpectedUpTo, IsEnd, PageIs, WroteAll, WroteCounts, WroteInput, WroteInputPart}
+use Rattle.form_run.specs.Transcript.{AreExpectedUpTo, IsEnd, IsExpected, PageIs, WroteAll, WroteCounts, WroteInput, WroteInputPart}
 use Rattle.form_run.specs.declared.status.Status.{Status}
 use Rattle.form_run.specs.declared.status.Status.TheVariants as ends
 
@@ -45,6 +45,12 @@ IsUnread (Some (Generated count)) held left given taken = (left ≡ held) × (ta
 abbrev pub AllTell : Files → Type 0
 AllTell files = (number : ℕ) → IsThere files number → IsSome (told files number)
 
+-- where each name has a file that tells its content, an input has one text
+abbrev pub HasOneText : Files → Parts → List (List ℕ) → List ℕ → Type 0
+HasOneText files base names input =
+    (one other : List ℕ) → length names ≡ length files → All IsSome files → AllTell files
+    → IsExpected files base names input one → IsExpected files base names input other → one ≡ other
+
 -- the source is at its end, and the whole transcript was written
 pub record IsWhole (files : Files) (base : Parts) (names : List (List ℕ)) (input : List ℕ) (status : Status)
     (left written now : Option (List ℕ)) : Type 0 where
@@ -62,8 +68,10 @@ IsCompleteOf (Some (Page base names)) files held left read_rose write_rose file_
 IsCompleteOf (Some (Generated count)) files held left read_rose write_rose file_rose status written now =
     ¬ write_rose → (status ≡ ends.Memory) ⊎ WroteCounts count status written now
 
--- the files are those after some of the commands; where no document is named, all of them
-abbrev pub HasFilesUpTo : Option PlainTask → (held : Option (List ℕ)) → (old new : Files) → Type 0
-HasFilesUpTo None held old new = new ≡ old
-HasFilesUpTo (Some (Page base names)) held old new = IfSome held (λ input. AreExpectedUpTo base names input old new)
-HasFilesUpTo (Some (Generated count)) held old new = new ≡ old
+-- the files are those after some of the commands; where no document is named, the very same
+abbrev pub HasFilesUpTo : {B : Type 0} → Option PlainTask → (held : Option (List ℕ)) → (old new : Files)
+    → (shelf left : List (Option B)) → Type 0
+HasFilesUpTo None held old new shelf left = left ≡ shelf
+HasFilesUpTo (Some (Page base names)) held old new shelf left =
+    IfSome held (λ input. AreExpectedUpTo base names input old new shelf left)
+HasFilesUpTo (Some (Generated count)) held old new shelf left = left ≡ shelf

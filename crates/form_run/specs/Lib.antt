@@ -1,8 +1,10 @@
 pub mod Asking
 pub mod Session
+pub mod Chosen
 pub mod Endings
 pub mod Replies
 pub mod Counting
 pub mod Taken
 pub mod Transcript
+pub mod Fronts
 pub mod Ended

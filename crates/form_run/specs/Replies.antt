@@ -1,5 +1,5 @@
 -- The replies to the lines of a script.
-use Rattle.std.specs.Prelude.{◌≡◌, ℕ, List, [], ◌∷◌, ◌++◌, codes}
+use Rattle.std.specs.Prelude.{◌≡◌, ℕ, List, [], ◌∷◌, ◌++◌, Option, codes}
 use Rattle.form_page.specs.Page.{Page}
 use Rattle.form_page.specs.Views.{changes}
 use Rattle.form_acts.specs.Acts.{outcome}
@@ -18,6 +18,7 @@ use Rattle.form_replies.specs.Replies.{act_reply, ok_line, refusal_word, refused
 use Rattle.form_run.specs.declared.asked.Asked.{Asked}
 use Rattle.form_run.specs.declared.asked.Asked.TheVariants as asks
 use Rattle.form_run.specs.declared.asked.Submission.{Submission}
+use Rattle.form_run.specs.Chosen.{OthersStay, chosen_in}
 use Rattle.form_run.specs.Session.{Files, Session, after, asked_in, files_after}
 
 -- ---- a submission that makes no request
@@ -100,9 +101,12 @@ files_after_all session files [] = files
 files_after_all session files (line ∷ lines) =
     files_after_all (after session line) (files_after session.page files line) lines
 
--- these are the files after some of the first lines
-pub record AreFilesUpTo (session : Session) (lines : List (List ℕ)) (old new : Files) : Type 0 where
+-- These are the files after some of the first lines: they tell what those lines leave, and each file that no accepted
+-- command of them chooses is the very same, as long as it is there.
+pub record AreFilesUpTo {B : Type 0} (session : Session) (lines : List (List ℕ)) (old new : Files)
+    (shelf left : List (Option B)) : Type 0 where
   pub front : List (List ℕ)
   pub rest : List (List ℕ)
   pub whole : lines ≡ front ++ rest
   pub is : new ≡ files_after_all session old front
+  pub others : OthersStay (chosen_in session front) shelf left

@@ -6,7 +6,6 @@ use Rattle.form_tree.specs.declared.node.Raw.{Raw}
 use Rattle.form_page.specs.Opening as pages
 use Rattle.form_page.specs.Page.{Page}
 use Rattle.form_changes.specs.declared.act.Act.{Act}
-use Rattle.form_changes.specs.declared.act.Act.TheVariants as acts
 use Rattle.form_changes.specs.declared.act.ActFault.{ActFault}
 use Rattle.form_acts.specs.Acts.{outcome}
 use Rattle.form_acts.specs.Refusals.{refusal_of}

@@ -51,12 +51,16 @@ abbrev pub expected_files : Parts → List (List ℕ) → List ℕ → Files →
 expected_files base names input files = files_at_end base names (command_lines input) (page_in input) files
 
 -- the files after some of a run's lines
-abbrev pub AreFilesSoFar : Parts → List (List ℕ) → List (List ℕ) → Result (List Raw) (List ℕ) → Files → Files → Type 0
-AreFilesSoFar base names lines (Err line) old new = new ≡ old
-AreFilesSoFar base names lines (Ok raws) old new = AreFilesUpTo (opened base raws names) lines old new
+abbrev pub AreFilesSoFar : {B : Type 0} → Parts → List (List ℕ) → List (List ℕ) → Result (List Raw) (List ℕ)
+    → (old new : Files) → (shelf left : List (Option B)) → Type 0
+AreFilesSoFar base names lines (Err line) old new shelf left = (new ≡ old) × (left ≡ shelf)
+AreFilesSoFar base names lines (Ok raws) old new shelf left =
+    AreFilesUpTo (opened base raws names) lines old new shelf left
 
-abbrev pub AreExpectedUpTo : Parts → List (List ℕ) → List ℕ → Files → Files → Type 0
-AreExpectedUpTo base names input old new = AreFilesSoFar base names (command_lines input) (page_in input) old new
+abbrev pub AreExpectedUpTo : {B : Type 0} → Parts → List (List ℕ) → List ℕ → (old new : Files)
+    → (shelf left : List (Option B)) → Type 0
+AreExpectedUpTo base names input old new shelf left =
+    AreFilesSoFar base names (command_lines input) (page_in input) old new shelf left
 
 -- ---- the page
 

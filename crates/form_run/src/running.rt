@@ -4,6 +4,7 @@ ghost use Rattle.form_ports.specs.Ports.{Rose};
 ghost use Rattle.form_ports.specs.Shelf.{contents_of, numbers_of};
 ghost use Rattle.form_input.specs.Lines.{lines_of};
 ghost use Rattle.form_replies.specs.Saying.{Said, SaidPart};
+ghost use Rattle.form_run.specs.Chosen.{NamesNone};
 ghost use Rattle.form_run.specs.Endings.{AreFiles, NoneCame, SomeChanged, SomeFileRose};
 ghost use Rattle.form_run.specs.Replies.{AreFilesUpTo, AreReplies, files_after_all};
 
@@ -26,7 +27,8 @@ pub fn serve_all<K: Sink, L: Ledger>(
     shelf: &mut Vec<Option<Box<dyn Blob>>>,
     sink: &mut K,
 ) -> Result<(), Stop>
-    requires { AreFiles (contents_of (λ b. content b) shelf.old.items) session.old.page.files }
+    requires files { AreFiles (contents_of (λ b. content b) shelf.old.items) session.old.page.files }
+    requires unnamed { NamesNone session.old.page }
     ensures said { OnOk result
         (Said (AreReplies (contents_of (λ b. content b) shelf.old.items) session.old (lines_of text.now))
         (K.written sink.old) (K.written sink.new) pending.old.items pending.new.items) }
@@ -35,7 +37,7 @@ pub fn serve_all<K: Sink, L: Ledger>(
     ensures shelf { OnOk result (contents_of (λ b. content b) shelf.new.items
         ≡ files_after_all session.old (contents_of (λ b. content b) shelf.old.items) (lines_of text.now)) }
     ensures kept { AreFilesUpTo session.old (lines_of text.now) (contents_of (λ b. content b) shelf.old.items)
-        (contents_of (λ b. content b) shelf.new.items) }
+        (contents_of (λ b. content b) shelf.new.items) shelf.old.items shelf.new.items }
     ensures counts { NoneCame (numbers_of (λ b. (⟦<dyn Blob as Blob>⟧ b.vtable).faults b.value) shelf.old.items)
         (numbers_of (λ b. (⟦<dyn Blob as Blob>⟧ b.vtable).faults b.value) shelf.new.items) }
     ensures write_fault { result ≡ Err Stop.WriteFault → Rose (K.faults sink.old) (K.faults sink.new) }

@@ -7,12 +7,13 @@ ghost use Rattle.form_acts.specs.Acts.{outcome};
 ghost use Rattle.form_acts.specs.Refusals.{refusal_of};
 ghost use Rattle.form_page.specs.Views.{changes};
 ghost use Rattle.form_submit.specs.Outcome.{IfRequest};
-ghost use Rattle.form_submit.specs.PrintedRequest.{IsSendable};
+ghost use Rattle.form_submit.specs.PrintedRequest.{IsSendable, file_numbers};
 ghost use Rattle.form_replies.specs.Stops.{is_reading, is_writing};
 ghost use Rattle.form_replies.specs.Replies.{act_reply};
 ghost use Rattle.form_replies.specs.Saying.{Said, SaidPart};
 ghost use Rattle.form_replies.specs.Withdrawn.{without_all};
 ghost use Rattle.form_run.specs.declared.asked.Asked.TheVariants as asks;
+ghost use Rattle.form_run.specs.Chosen.{OthersStay, named_in, outcome_numbers};
 ghost use Rattle.form_run.specs.Endings.{AreFiles, NoneCame, SomeChanged, SomeFileRose};
 ghost use Rattle.form_run.specs.Replies.{IsOutcomeText, IsReply, IsReplyTo, IsRequestText, IsSubmissionReply, IsSubmitted};
 ghost use Rattle.form_run.specs.Session.{HasShortBoundaries, after, files_after, session_after, withdrawn};
@@ -48,6 +49,7 @@ fn serve_request<K: Sink>(
     ensures part { SaidPart (IsRequestText (contents_of (λ b. content b) shelf.old.items) request.now)
         (K.written sink.old) (K.written sink.new) pending.old.items pending.new.items }
     ensures kept { contents_of (λ b. content b) shelf.new.items ≡ contents_of (λ b. content b) shelf.old.items }
+    ensures others { OthersStay (file_numbers request.now.body) shelf.old.items shelf.new.items }
     ensures counts { NoneFell (numbers_of (λ b. (⟦<dyn Blob as Blob>⟧ b.vtable).faults b.value) shelf.old.items)
         (numbers_of (λ b. (⟦<dyn Blob as Blob>⟧ b.vtable).faults b.value) shelf.new.items) }
     ensures write_fault { result ≡ Err Stop.WriteFault → Rose (K.faults sink.old) (K.faults sink.new) }
@@ -82,6 +84,7 @@ fn serve_outcome<K: Sink>(
     ensures part { SaidPart (IsOutcomeText (contents_of (λ b. content b) shelf.old.items) page.now outcome.now)
         (K.written sink.old) (K.written sink.new) pending.old.items pending.new.items }
     ensures kept { contents_of (λ b. content b) shelf.new.items ≡ contents_of (λ b. content b) shelf.old.items }
+    ensures others { OthersStay (outcome_numbers outcome.now) shelf.old.items shelf.new.items }
     ensures counts { NoneFell (numbers_of (λ b. (⟦<dyn Blob as Blob>⟧ b.vtable).faults b.value) shelf.old.items)
         (numbers_of (λ b. (⟦<dyn Blob as Blob>⟧ b.vtable).faults b.value) shelf.new.items) }
     ensures write_fault { result ≡ Err Stop.WriteFault → Rose (K.faults sink.old) (K.faults sink.new) }
@@ -117,6 +120,7 @@ fn outcome_of(
     ensures sendable { IfOk result (λ outcome. IfRequest outcome (λ request.
         IsSendable (contents_of (λ b. content b) shelf.new.items) request)) }
     ensures kept { contents_of (λ b. content b) shelf.new.items ≡ contents_of (λ b. content b) shelf.old.items }
+    ensures others { OthersStay (named_in session.now.page) shelf.old.items shelf.new.items }
     ensures counts { NoneFell (numbers_of (λ b. faults b) shelf.old.items) (numbers_of (λ b. faults b) shelf.new.items) }
     ensures kind { IfErr result (λ stop. is_reading stop ≡ true) }
     ensures file_fault { result ≡ Err Stop.FileFault → SomeFileRose (numbers_of (λ b. faults b) shelf.old.items)
@@ -144,6 +148,7 @@ fn serve_submission<K: Sink>(
     ensures part { SaidPart (IsSubmissionReply (contents_of (λ b. content b) shelf.old.items) session.now s)
         (K.written sink.old) (K.written sink.new) pending.old.items pending.new.items }
     ensures kept { contents_of (λ b. content b) shelf.new.items ≡ contents_of (λ b. content b) shelf.old.items }
+    ensures others { OthersStay (named_in session.now.page) shelf.old.items shelf.new.items }
     ensures counts { NoneFell (numbers_of (λ b. (⟦<dyn Blob as Blob>⟧ b.vtable).faults b.value) shelf.old.items)
         (numbers_of (λ b. (⟦<dyn Blob as Blob>⟧ b.vtable).faults b.value) shelf.new.items) }
     ensures write_fault { result ≡ Err Stop.WriteFault → Rose (K.faults sink.old) (K.faults sink.new) }
@@ -222,6 +227,7 @@ fn serve_asked<K: Sink, L: Ledger>(
         ≡ without_all (contents_of (λ b. content b) shelf.old.items) (withdrawn session.old.page asked.now)) }
     ensures kept { OnErr result (contents_of (λ b. content b) shelf.new.items
         ≡ contents_of (λ b. content b) shelf.old.items) }
+    ensures others { OthersStay (named_in session.old.page) shelf.old.items shelf.new.items }
     ensures counts { NoneCame (numbers_of (λ b. (⟦<dyn Blob as Blob>⟧ b.vtable).faults b.value) shelf.old.items)
         (numbers_of (λ b. (⟦<dyn Blob as Blob>⟧ b.vtable).faults b.value) shelf.new.items) }
     ensures write_fault { result ≡ Err Stop.WriteFault → Rose (K.faults sink.old) (K.faults sink.new) }
@@ -271,6 +277,7 @@ pub fn serve<K: Sink, L: Ledger>(
     ensures files { OnOk result (AreFiles (contents_of (λ b. content b) shelf.new.items) session.new.page.files) }
     ensures kept { OnErr result (contents_of (λ b. content b) shelf.new.items
         ≡ contents_of (λ b. content b) shelf.old.items) }
+    ensures others { OthersStay (named_in session.old.page) shelf.old.items shelf.new.items }
     ensures counts { NoneCame (numbers_of (λ b. (⟦<dyn Blob as Blob>⟧ b.vtable).faults b.value) shelf.old.items)
         (numbers_of (λ b. (⟦<dyn Blob as Blob>⟧ b.vtable).faults b.value) shelf.new.items) }
     ensures write_fault { result ≡ Err Stop.WriteFault → Rose (K.faults sink.old) (K.faults sink.new) }

@@ -13,6 +13,7 @@ ghost use Rattle.form_submit.specs.PrintedRequest.{IsSendable};
 ghost use Rattle.form_submit.specs.declared.outcome.SubmitFault.TheVariants as submit_faults;
 ghost use Rattle.form_script.specs.LineReading.{command_of};
 ghost use Rattle.form_run.specs.declared.asked.Asked.TheVariants as asks;
+ghost use Rattle.form_run.specs.Chosen.{OthersStay, named_in};
 ghost use Rattle.form_run.specs.Endings.{AreFiles, SomeFileRose};
 ghost use Rattle.form_run.specs.Replies.{IsSubmitted};
 ghost use Rattle.form_run.specs.Session as sessions;
@@ -124,6 +125,7 @@ impl Session {
         ensures kept { contents_of (λ b. content b) shelf.new.items ≡ contents_of (λ b. content b) shelf.old.items }
         ensures counts { NoneFell (numbers_of (λ b. faults b) shelf.old.items)
             (numbers_of (λ b. faults b) shelf.new.items) }
+        ensures others { OthersStay (named_in self.now.page) shelf.old.items shelf.new.items }
         ensures fault { result ≡ Err submit_faults.Blob → SomeFileRose (numbers_of (λ b. faults b) shelf.old.items)
             (numbers_of (λ b. faults b) shelf.new.items) }
     {

@@ -8,9 +8,10 @@ ghost use Rattle.url.specs.Parts.{Parts};
 ghost use Rattle.form_tree.specs.declared.node.Raw.{Raw};
 ghost use Rattle.form_acts.specs.Soundness.{IsSound};
 ghost use Rattle.form_run.specs.Replies.{session_after_all};
-ghost use Rattle.form_run.specs.Session.{opened};
+ghost use Rattle.form_run.specs.Session.{Files, opened};
 ghost use Rattle.form_run.specs.Taken.{page_in};
-ghost use Rattle.form_run.specs.Ended.{AllTell, HasEnded, HasFilesUpTo, HasWritten, IsCompleteOf, IsPageOf, IsUnread, IsWhole};
+ghost use Rattle.form_run.specs.Ended.{AllTell, HasEnded, HasFilesUpTo, HasOneText, HasWritten, IsCompleteOf, IsPageOf, IsUnread, IsWhole};
+ghost use Rattle.form_run.specs.Fronts.{HasOneFront};
 ghost use Rattle.form_run.specs.Endings.{NoneCame, SomeChanged, SomeFileRose};
 ghost use Rattle.form_run.specs.Transcript.{AreExpectedUpTo, IsEnd, IsSilent, IsUntouched, PageIs, WroteAll, WroteInputPart};
 
@@ -63,7 +64,8 @@ fn run_page<S: Source, K: Sink>(
         (map string_bytes names.items) input result (S.held source.new) (K.written sink.old) (K.written sink.new)) }
     ensures untouched { IsUntouched result ≡ true → shelf.new.items ≡ shelf.old.items }
     ensures kept { IfSome (S.held source.old) (λ input. AreExpectedUpTo base (map string_bytes names.items) input
-        (contents_of (λ b. content b) shelf.old.items) (contents_of (λ b. content b) shelf.new.items)) }
+        (contents_of (λ b. content b) shelf.old.items) (contents_of (λ b. content b) shelf.new.items)
+        shelf.old.items shelf.new.items) }
     ensures counts { NoneCame (numbers_of (λ b. (⟦<dyn Blob as Blob>⟧ b.vtable).faults b.value) shelf.old.items)
         (numbers_of (λ b. (⟦<dyn Blob as Blob>⟧ b.vtable).faults b.value) shelf.new.items) }
     ensures later { (S.faults source.old ≤ S.faults source.new) × (K.faults sink.old ≤ K.faults sink.new) }
@@ -104,6 +106,13 @@ pub fn run<S: Source, K: Sink>(
         (S.held source.old) (K.written sink.old) (K.written sink.new) }
     ensures silent { IsSilent result ≡ true → K.written sink.new ≡ K.written sink.old }
 
+    // Where each name has a file that tells its content, there is one such text.
+    ensures one { (files : Files) (base : Parts) (names : List (List ℕ)) (input : List ℕ) → HasOneText files base names input }
+
+    // Up to the first submission that is decided by the content of a file that does not tell it there is one, whatever
+    // files tell; each such text begins with that.
+    ensures front { (files : Files) (base : Parts) (names : List (List ℕ)) (input : List ℕ) → HasOneFront files base names input }
+
     // Whatever page is read, it is sound as it opens and after each command.
     ensures sound { (input : List ℕ) (raws : List Raw) (base : Parts) (names lines : List (List ℕ)) → page_in input ≡ Ok raws
         → IsSound (session_after_all (opened base raws names) lines).page }
@@ -139,13 +148,15 @@ pub fn run<S: Source, K: Sink>(
         (numbers_of (λ b. (⟦<dyn Blob as Blob>⟧ b.vtable).faults b.value) shelf.new.items))
         result (K.written sink.old) (K.written sink.new) }
 
-    // No file is gone but those that were withdrawn so far, and none tells another content. No file is touched for a
+    // No file is gone but those that were withdrawn so far, and none tells another content. A file that is there and that
+    // no accepted command chose is the very same, with its position and its count of faults. No file is touched for a
     // generated page.
     ensures untouched { IsUntouched result ≡ true → shelf.new.items ≡ shelf.old.items }
     ensures generated { (count : ℕ) → task_of (map string_bytes words.now) ≡ Some (Generated count)
         → shelf.new.items ≡ shelf.old.items }
     ensures kept { HasFilesUpTo (task_of (map string_bytes words.now)) (S.held source.old)
-        (contents_of (λ b. content b) shelf.old.items) (contents_of (λ b. content b) shelf.new.items) }
+        (contents_of (λ b. content b) shelf.old.items) (contents_of (λ b. content b) shelf.new.items)
+        shelf.old.items shelf.new.items }
     ensures counts { NoneCame (numbers_of (λ b. (⟦<dyn Blob as Blob>⟧ b.vtable).faults b.value) shelf.old.items)
         (numbers_of (λ b. (⟦<dyn Blob as Blob>⟧ b.vtable).faults b.value) shelf.new.items) }
     ensures later { (S.faults source.old ≤ S.faults source.new) × (K.faults sink.old ≤ K.faults sink.new) }

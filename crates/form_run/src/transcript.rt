@@ -47,7 +47,8 @@ fn say_page<K: Sink, L: Ledger>(
         ≡ files_at_end base (map string_bytes names.items) (lines_of commands.now) (Ok raws.items)
         (contents_of (λ b. content b) shelf.old.items)) }
     ensures kept { AreFilesSoFar base (map string_bytes names.items) (lines_of commands.now) (Ok raws.items)
-        (contents_of (λ b. content b) shelf.old.items) (contents_of (λ b. content b) shelf.new.items) }
+        (contents_of (λ b. content b) shelf.old.items) (contents_of (λ b. content b) shelf.new.items)
+        shelf.old.items shelf.new.items }
     ensures counts { NoneCame (numbers_of (λ b. (⟦<dyn Blob as Blob>⟧ b.vtable).faults b.value) shelf.old.items)
         (numbers_of (λ b. (⟦<dyn Blob as Blob>⟧ b.vtable).faults b.value) shelf.new.items) }
     ensures write_fault { result ≡ Err Stop.WriteFault → Rose (K.faults sink.old) (K.faults sink.new) }
@@ -88,7 +89,8 @@ fn say_input<K: Sink, L: Ledger>(
         ≡ expected_files base (map string_bytes names.items) input.now (contents_of (λ b. content b) shelf.old.items)) }
     ensures untouched { result ≡ Ok Status.Page → shelf.new.items ≡ shelf.old.items }
     ensures kept { AreExpectedUpTo base (map string_bytes names.items) input.now
-        (contents_of (λ b. content b) shelf.old.items) (contents_of (λ b. content b) shelf.new.items) }
+        (contents_of (λ b. content b) shelf.old.items) (contents_of (λ b. content b) shelf.new.items)
+        shelf.old.items shelf.new.items }
     ensures counts { NoneCame (numbers_of (λ b. (⟦<dyn Blob as Blob>⟧ b.vtable).faults b.value) shelf.old.items)
         (numbers_of (λ b. (⟦<dyn Blob as Blob>⟧ b.vtable).faults b.value) shelf.new.items) }
     ensures write_fault { result ≡ Err Stop.WriteFault → Rose (K.faults sink.old) (K.faults sink.new) }
@@ -151,7 +153,8 @@ pub fn transcribe<K: Sink, L: Ledger>(
         ≡ expected_files base (map string_bytes names.items) input.items (contents_of (λ b. content b) shelf.old.items) }
     ensures untouched { result ≡ Status.Page → shelf.new.items ≡ shelf.old.items }
     ensures kept { AreExpectedUpTo base (map string_bytes names.items) input.items
-        (contents_of (λ b. content b) shelf.old.items) (contents_of (λ b. content b) shelf.new.items) }
+        (contents_of (λ b. content b) shelf.old.items) (contents_of (λ b. content b) shelf.new.items)
+        shelf.old.items shelf.new.items }
     ensures counts { NoneCame (numbers_of (λ b. (⟦<dyn Blob as Blob>⟧ b.vtable).faults b.value) shelf.old.items)
         (numbers_of (λ b. (⟦<dyn Blob as Blob>⟧ b.vtable).faults b.value) shelf.new.items) }
     ensures write_fault { result ≡ Status.WriteFault → Rose (K.faults sink.old) (K.faults sink.new) }

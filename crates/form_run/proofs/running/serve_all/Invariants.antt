@@ -12,6 +12,7 @@ abbrev pub invariant-lines : goal.invariant-lines
 invariant-lines g l =
     ServedUpTo (contents_of (λ b. (goal.Blob-dyn g (b.vtable, b.value)).content b.value) l.initial.shelf.items)
     (contents_of (λ b. (goal.Blob-dyn g (b.vtable, b.value)).content b.value) l.shelf.items)
+    l.initial.shelf.items l.shelf.items
     l.initial.session l.session (lines_of l.text) (lines_of l.rest)
     (g.K.Sink.written l.initial.sink) (g.K.Sink.written l.sink) l.initial.pending.items l.pending.items
     × NoneCame (numbers_of (λ b. (goal.Blob-dyn g (b.vtable, b.value)).faults b.value) l.initial.shelf.items)

@@ -1,4 +1,5 @@
 use Rattle.std.proofs.lemmas.Result.{on_ok_weaker}
+use Rattle.form_run.proofs.ChosenLaws.{act_stay, stay_same}
 use Rattle.form_run.proofs.FilesLaws.{act_contents, act_counts, came_fell, came_same}
 use Rattle.form_run.proofs.SubmittedLaws.{no_command_said, reply_nothing}
 use Rattle.form_run.proofs.serving.serve_asked.Goals as goal
@@ -44,3 +45,30 @@ returns-in_ok-set_boundaries-in-Boundaries-clause-counts g c = came_same _
 
 pub returns-in-Submit-clause-counts : goal.returns-in-Submit-clause-counts
 returns-in-Submit-clause-counts g c = came_fell _ _ c.serve_submission.ensures.counts
+
+pub returns-in_err-text-in-Show-clause-others : goal.returns-in_err-text-in-Show-clause-others
+returns-in_err-text-in-Show-clause-others g c = stay_same _ _
+
+pub returns-in_err-set_boundaries-in-Boundaries-clause-others : goal.returns-in_err-set_boundaries-in-Boundaries-clause-others
+returns-in_err-set_boundaries-in-Boundaries-clause-others g c = stay_same _ _
+
+pub returns-in-NoCommand-clause-others : goal.returns-in-NoCommand-clause-others
+returns-in-NoCommand-clause-others g c = stay_same _ _
+
+pub returns-in-Syntax-clause-others : goal.returns-in-Syntax-clause-others
+returns-in-Syntax-clause-others g c = stay_same _ _
+
+pub returns-in-Refused-clause-others : goal.returns-in-Refused-clause-others
+returns-in-Refused-clause-others g c = stay_same _ _
+
+pub returns-in-Nothing-clause-others : goal.returns-in-Nothing-clause-others
+returns-in-Nothing-clause-others g c = stay_same _ _
+
+pub returns-in-Act-clause-others : goal.returns-in-Act-clause-others
+returns-in-Act-clause-others g c = act_stay _ _ _ _ c.serve_act.result c.serve_act.ensures.shelf c.serve_act.ensures.kept
+
+pub returns-in_ok-text-in-Show-clause-others : goal.returns-in_ok-text-in-Show-clause-others
+returns-in_ok-text-in-Show-clause-others g c = stay_same _ _
+
+pub returns-in_ok-set_boundaries-in-Boundaries-clause-others : goal.returns-in_ok-set_boundaries-in-Boundaries-clause-others
+returns-in_ok-set_boundaries-in-Boundaries-clause-others g c = stay_same _ _

@@ -2,6 +2,7 @@ use Rattle.std.proofs.lemmas.Result.{err_from_is_err_and}
 use Rattle.form_ports.proofs.Laws.{NoneFell-same, NoneFell-trans}
 use Rattle.form_pending.proofs.Laws.{part_of_says}
 use Rattle.std.proofs.lemmas.Result.{on_ok_weaker}
+use Rattle.form_run.proofs.ChosenLaws.{outcome_stay, stay_same, stay_then}
 use Rattle.form_run.proofs.FilesLaws.{came_fell, rose_later}
 use Rattle.form_run.proofs.SubmittedLaws.{submission_nothing, submission_part, submission_part_ok, submission_said}
 use Rattle.form_run.proofs.serving.serve_submission.Goals as goal
@@ -37,3 +38,12 @@ returns-clause-part g c =
 
 pub returns-clause-counts : goal.returns-clause-counts
 returns-clause-counts g c = NoneFell-trans _ _ _ c.in_ok-outcome.ensures.counts c.in_ok-serve_outcome.ensures.counts
+
+pub returns-in_err-flush_before_files-clause-others : goal.returns-in_err-flush_before_files-clause-others
+returns-in_err-flush_before_files-clause-others g c = stay_same _ _
+
+pub returns-in_err-serve_outcome-clause-others : goal.returns-in_err-serve_outcome-clause-others
+returns-in_err-serve_outcome-clause-others g c = stay_then _ _ _ _ c.in_ok-outcome.ensures.others (outcome_stay _ _ _ _ _ _ c.in_ok-outcome.ensures.outcome c.in_err-serve_outcome.ensures.others)
+
+pub returns-clause-others : goal.returns-clause-others
+returns-clause-others g c = stay_then _ _ _ _ c.in_ok-outcome.ensures.others (outcome_stay _ _ _ _ _ _ c.in_ok-outcome.ensures.outcome c.in_ok-serve_outcome.ensures.others)

@@ -3,6 +3,8 @@ use Rattle.std.specs.Prelude.{string_bytes}
 use Rattle.std.proofs.lemmas.List.{length-map}
 use Rattle.form_input.proofs.Laws.{generated-count, page-names}
 use Rattle.form_run.proofs.FilesLaws.{came_same}
+use Rattle.form_run.proofs.OneFront.{known_front}
+use Rattle.form_run.proofs.OneTranscript.{one_expected}
 use Rattle.form_run.proofs.Runs.{memory_complete, not_generated, task_nothing, task_untouched}
 use Rattle.form_run.proofs.SoundLaws.{run_sound}
 use Rattle.form_run.proofs.top.run.Goals as goal
@@ -35,7 +37,7 @@ pub returns-in-Err-Memory-clause-part : goal.returns-in-Err-Memory-clause-part
 returns-in-Err-Memory-clause-part g c = task_nothing _ _ _ _
 
 pub returns-in-Err-Memory-clause-kept : goal.returns-in-Err-Memory-clause-kept
-returns-in-Err-Memory-clause-kept g c = task_untouched _ _ _
+returns-in-Err-Memory-clause-kept g c = task_untouched _ _ _ _
 
 pub returns-in-Err-Memory-clause-counts : goal.returns-in-Err-Memory-clause-counts
 returns-in-Err-Memory-clause-counts g c = came_same _
@@ -43,6 +45,18 @@ returns-in-Err-Memory-clause-counts g c = came_same _
 pub returns-in-Ok-Page-clause-generated : goal.returns-in-Ok-Page-clause-generated
 returns-in-Ok-Page-clause-generated g c =
     λ count same. absurd (not_generated _ _ _ count (rw (c.in-Ok-Page.is, c.in-Ok-Page.field-0-is) at c.task_of.ensures.ok) same)
+
+pub returns-in-Ok-Page-clause-one : goal.returns-in-Ok-Page-clause-one
+returns-in-Ok-Page-clause-one g c = one_expected
+
+pub returns-in-Ok-Generated-clause-one : goal.returns-in-Ok-Generated-clause-one
+returns-in-Ok-Generated-clause-one g c = one_expected
+
+pub returns-in-Err-Usage-clause-one : goal.returns-in-Err-Usage-clause-one
+returns-in-Err-Usage-clause-one g c = one_expected
+
+pub returns-in-Err-Memory-clause-one : goal.returns-in-Err-Memory-clause-one
+returns-in-Err-Memory-clause-one g c = one_expected
 
 pub returns-in-Ok-Page-clause-sound : goal.returns-in-Ok-Page-clause-sound
 returns-in-Ok-Page-clause-sound g c = run_sound
@@ -55,3 +69,21 @@ returns-in-Err-Usage-clause-sound g c = run_sound
 
 pub returns-in-Err-Memory-clause-sound : goal.returns-in-Err-Memory-clause-sound
 returns-in-Err-Memory-clause-sound g c = run_sound
+
+pub returns-in-Ok-Generated-clause-kept : goal.returns-in-Ok-Generated-clause-kept
+returns-in-Ok-Generated-clause-kept g c = task_untouched _ _ _ _
+
+pub returns-in-Err-Usage-clause-kept : goal.returns-in-Err-Usage-clause-kept
+returns-in-Err-Usage-clause-kept g c = task_untouched _ _ _ _
+
+pub returns-in-Ok-Page-clause-front : goal.returns-in-Ok-Page-clause-front
+returns-in-Ok-Page-clause-front g c = known_front
+
+pub returns-in-Ok-Generated-clause-front : goal.returns-in-Ok-Generated-clause-front
+returns-in-Ok-Generated-clause-front g c = known_front
+
+pub returns-in-Err-Usage-clause-front : goal.returns-in-Err-Usage-clause-front
+returns-in-Err-Usage-clause-front g c = known_front
+
+pub returns-in-Err-Memory-clause-front : goal.returns-in-Err-Memory-clause-front
+returns-in-Err-Memory-clause-front g c = known_front

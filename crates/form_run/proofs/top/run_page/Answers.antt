@@ -10,7 +10,7 @@ returns-in-Ok-clause-page g c =
 
 pub returns-in-Ok-clause-complete : goal.returns-in-Ok-clause-complete
 returns-in-Ok-clause-complete g c =
-    of_input _ _ _ _ _ _ c.in-Ok.ensures.whole c.in-Ok.ensures.end (λ short tell quiet calm silent. whole_or_memory _ _ _ _ _ _ _ _ _ _ _ _ c.transcribe.ensures.kinds
+    of_input _ _ _ _ _ _ c.in-Ok.ensures.whole c.in-Ok.ensures.end (λ short tell quiet calm silent. whole_or_memory _ _ _ _ _ _ _ _ _ _ _ _ _ _ c.transcribe.ensures.kinds
     c.in-Ok.ensures.end c.transcribe.ensures.end c.transcribe.ensures.kept c.transcribe.ensures.write_fault c.transcribe.ensures.file_fault c.transcribe.ensures.changed tell calm silent)
 
 pub returns-in-Err-Fault-clause-part : goal.returns-in-Err-Fault-clause-part
@@ -20,7 +20,7 @@ pub returns-in-Err-Fault-clause-complete : goal.returns-in-Err-Fault-clause-comp
 returns-in-Err-Fault-clause-complete g c = rose_complete _ _ _ _ _ _ (c.read_all.ensures.fault (c.in-Err-Fault.is ∙ ap (λ e. Err e) c.in-Err-Fault.field-0-is))
 
 pub returns-in-Err-Fault-clause-kept : goal.returns-in-Err-Fault-clause-kept
-returns-in-Err-Fault-clause-kept g c = of_any _ _ (λ input. input_untouched _ _ _ _)
+returns-in-Err-Fault-clause-kept g c = of_any _ _ (λ input. input_untouched _ _ _ _ _)
 
 pub returns-in-Err-Fault-clause-counts : goal.returns-in-Err-Fault-clause-counts
 returns-in-Err-Fault-clause-counts g c = came_same _
@@ -29,7 +29,7 @@ pub returns-in-Err-TooLong-clause-part : goal.returns-in-Err-TooLong-clause-part
 returns-in-Err-TooLong-clause-part g c = of_any _ _ (λ input. wrote_nothing _ _ _ _ _)
 
 pub returns-in-Err-TooLong-clause-kept : goal.returns-in-Err-TooLong-clause-kept
-returns-in-Err-TooLong-clause-kept g c = of_any _ _ (λ input. input_untouched _ _ _ _)
+returns-in-Err-TooLong-clause-kept g c = of_any _ _ (λ input. input_untouched _ _ _ _ _)
 
 pub returns-in-Err-TooLong-clause-counts : goal.returns-in-Err-TooLong-clause-counts
 returns-in-Err-TooLong-clause-counts g c = came_same _
@@ -47,7 +47,7 @@ pub returns-clause-part : goal.returns-clause-part
 returns-clause-part g c = of_any _ _ (λ input. wrote_nothing _ _ _ _ _)
 
 pub returns-clause-kept : goal.returns-clause-kept
-returns-clause-kept g c = of_any _ _ (λ input. input_untouched _ _ _ _)
+returns-clause-kept g c = of_any _ _ (λ input. input_untouched _ _ _ _ _)
 
 pub returns-clause-counts : goal.returns-clause-counts
 returns-clause-counts g c = came_same _

@@ -6,7 +6,7 @@ pub returns-in-Err-clause-part : goal.returns-in-Err-clause-part
 returns-in-Err-clause-part g c = wrote_nothing _ _ _ _ _
 
 pub returns-in-Err-clause-kept : goal.returns-in-Err-clause-kept
-returns-in-Err-clause-kept g c = input_untouched _ _ _ _
+returns-in-Err-clause-kept g c = input_untouched _ _ _ _ _
 
 pub returns-in-Err-clause-counts : goal.returns-in-Err-clause-counts
 returns-in-Err-clause-counts g c = came_same _

@@ -1,5 +1,5 @@
 -- What acts keep of the bounds of a page: the shape of its tree, and the limits of each element.
-use Rattle.std.proofs.Common.{◌≡◌, ℕ, ◌≤◌, Bool, true, false, not, ◌&&◌, cond, List, [], length, refl, sym, ◌∙◌, subst, codes}
+use Rattle.std.proofs.Common.{◌≡◌, ℕ, ◌≤◌, Bool, true, false, not, ◌&&◌, cond, List, length, refl, sym, ◌∙◌, subst, codes}
 use Rattle.std.specs.List.{All}
 use Rattle.std.proofs.lemmas.Bool.{cond_both}
 use Rattle.form_types.specs.TypeTable.{kind_named, names_email}

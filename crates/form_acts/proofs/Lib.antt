@@ -15,6 +15,7 @@ mod NamedFiles
 mod NearRows
 mod OneElement
 mod OpenedSound
+mod OwnerLaws
 mod ResetLaws
 mod Rows
 mod SelectAttrs

@@ -1,6 +1,6 @@
 -- A page is sound as it opens, where its elements are within their limits.
 use Rattle.std.proofs.Common.{◌≡◌, ℕ, ◌+◌, ◌-◌, ◌≤◌, Bool, true, false, not, ◌&&◌, ◌||◌, ◌==◌, cond, List, [], ◌∷◌, map, Option, Some, None, refl, sym, ap, ◌∙◌, subst, codes}
-use Rattle.std.specs.List.{All, find, list_any, slice_get}
+use Rattle.std.specs.List.{All, find, list_any}
 use Rattle.std.specs.Option.{option_map, option_map_or}
 use Rattle.std.specs.Prelude.{reverse}
 use Rattle.std.proofs.lemmas.Bool.{and_from, and_parts, both_ways, or_left, or_right}
@@ -8,7 +8,7 @@ use Rattle.std.proofs.lemmas.List.Elements.{All-cons, All-head, All-map, All-nil
 use Rattle.std.proofs.lemmas.Option.{none-some, same_Some}
 use Rattle.form_types.specs.declared.kind.Mode.{Mode}
 use Rattle.form_types.specs.declared.kind.Mode.TheVariants as modes
-use Rattle.form_types.specs.TypeTable.{mode_of, names_email}
+use Rattle.form_types.specs.TypeTable.{mode_of}
 use Rattle.form_states.specs.States.{sanitised}
 use Rattle.form_tree.specs.declared.node.Key.{Key}
 use Rattle.form_tree.specs.declared.node.Node.{Node}
@@ -17,7 +17,7 @@ use Rattle.form_tree.specs.declared.node.State.{State}
 use Rattle.form_tree.specs.Elements.{is_among, is_input, is_textarea, kind_of, passes, same_key}
 use Rattle.form_tree.specs.RadioGroup.{is_checked, share_group}
 use Rattle.form_tree.specs.Selects.{Marked, display_size, is_multiple, is_selected, marked_option, options, select_of, settled, settled_by, settled_options, share_select}
-use Rattle.form_tree.specs.Tree.{IsTree, IsTreeOfRaws, NamesDiffer, Nodes, at_key, attr_in, empty_state, is_key, node_of_raw, nodes_of_raws, shape_of}
+use Rattle.form_tree.specs.Tree.{IsTree, NamesDiffer, Nodes, at_key, attr_in, empty_state, is_key, node_of_raw, nodes_of_raws, shape_of}
 use Rattle.form_tree.specs.Value.{value_attr_or}
 use Rattle.form_tree.proofs.FirstKeys.{numbered, raws_are_tree}
 use Rattle.form_tree.proofs.Laws.{KeepsElements, at_key_map, found_key, group-sym, key_same, same_key-refl, select_shared, share_group_map, share_select_map}
@@ -34,7 +34,7 @@ use Rattle.form_changes.specs.Values.{is_value_mode}
 use Rattle.form_acts.proofs.Groups.{radio_marking}
 use Rattle.form_acts.proofs.Marks.{OneMarked, fewer, nobody}
 use Rattle.form_acts.proofs.Shapes.{same_depth, same_length}
-use Rattle.form_acts.proofs.Sound.{IsSettledBut, same_marks, shape_kept}
+use Rattle.form_acts.proofs.Sound.{same_marks, shape_kept}
 use Rattle.form_acts.proofs.SoundLaws.{sound_from}
 use Rattle.form_changes.proofs.ValueLaws.{sanitised_again}
 

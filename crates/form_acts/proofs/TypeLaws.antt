@@ -1,5 +1,5 @@
 -- A change of an input's type keeps a page settled.
-use Rattle.std.proofs.Common.{◌≡◌, ℕ, Bool, true, false, not, ◌&&◌, cond, List, [], Option, Some, refl, sym, ap, ◌∙◌, subst, codes}
+use Rattle.std.proofs.Common.{◌≡◌, ℕ, Bool, true, false, not, ◌&&◌, ◌||◌, cond, List, [], Option, Some, refl, sym, ap, ◌∙◌, subst, codes}
 use Rattle.std.specs.Str.{bytes_eq}
 use Rattle.std.proofs.lemmas.Bool.{and_from, and_parts, cond_both}
 use denote.Enum.Bare.{differs_false}
@@ -10,12 +10,12 @@ use Rattle.form_acts.proofs.Sound.{one_radio, value_settled}
 use Rattle.form_acts.proofs.Still.{IsStill, agreeing, still_settled}
 use Rattle.form_acts.proofs.SoundLaws.{sound_but_nobody, sound_from}
 use Rattle.form_changes.specs.declared.role.Role.TheVariants as roles
-use Rattle.form_changes.specs.Changing.{changed_attr, changes_state, forgotten, same_kind, value_from_attr, value_to_attr, with_kind, with_mode, with_value_text}
+use Rattle.form_changes.specs.Changing.{changed_attr, changes_state, forgotten, is_file_kind, same_kind, value_from_attr, value_to_attr, with_kind, with_mode, with_value_text}
 use Rattle.form_changes.specs.Values.{has_kept_value, is_value_mode, with_value}
 use Rattle.form_acts.specs.Soundness.{HasSanitisedValue, HasSoundMarks, IsSettled}
 use Rattle.form_acts.specs.Acts.{after_change}
 use Rattle.form_page.specs.Settling.{with_radio}
-use Rattle.form_tree.proofs.Laws.{attr_other, names_still_differ}
+use Rattle.form_tree.proofs.Laws.{KeepsOwners, attr_other, names_still_differ}
 use Rattle.form_tree.specs.Attributes.{set_attr}
 use Rattle.form_tree.specs.Elements.{is_empty_text, is_input, kind_of, passes, same_key}
 use Rattle.form_tree.specs.RadioGroup.{is_checked, is_radio, is_radio_kind}
@@ -25,6 +25,7 @@ use Rattle.form_tree.specs.declared.node.Key.{Key}
 use Rattle.form_tree.specs.declared.node.Node.{Node}
 use Rattle.form_types.specs.TypeTable.{mode_of}
 use Rattle.form_types.specs.contracts.kind.Kind.{the_type as Kinds}
+use Rattle.form_types.specs.declared.kind.Kind.{Kind}
 use Rattle.form_types.specs.declared.kind.Mode.{Mode}
 
 -- what a type change keeps of a node on its way; the typed text is seen to at its end
@@ -86,6 +87,22 @@ like_mode n m like from to = go from to
 like_forgotten : (files : Bool) (n m : Node) → IsLike n m → IsLike n (forgotten files m)
 like_forgotten files n m like = record { key = like.key; parent = like.parent; tag = like.tag; form = like.form; id = like.id; multiple = like.multiple; names = like.names; by_user = like.by_user; selected = like.selected }
 
+like_itself : (n : Node) → IsLike n n
+like_itself n = record { key = refl; parent = refl; tag = refl; form = refl; id = refl; multiple = refl; names = λ h. h; by_user = λ h. h.by_user; selected = refl }
+
+-- no owner depends on the state of an input
+pub kind_owners : (from to : Kind) → KeepsOwners (with_kind from to)
+kind_owners from to = record {
+  key = λ n. (like n).key;
+  parent = λ n. (like n).parent;
+  tag = λ n. (like n).tag;
+  form = λ n. (like n).form;
+  id = λ n. (like n).id;
+}
+  where
+    like : (n : Node) → IsLike n (with_kind from to n)
+    like n = like_forgotten (is_file_kind from || is_file_kind to) n (with_mode (mode_of from) (mode_of to) n) (like_mode n n (like_itself n) (mode_of from) (mode_of to))
+
 -- ---- the change of the `type` attribute
 
 module _ (type : Option (List ℕ)) where
@@ -97,7 +114,7 @@ module _ (type : Option (List ℕ)) where
   moved_on n = with_kind (kind_of n) (kind_of (retyped n)) (retyped n)
 
   typed_attr : (n : Node) → IsLike n (retyped n)
-  typed_attr n = like_attr (codes "type") type refl refl refl n n (record { key = refl; parent = refl; tag = refl; form = refl; id = refl; multiple = refl; names = λ h. h; by_user = λ h. h.by_user; selected = refl })
+  typed_attr n = like_attr (codes "type") type refl refl refl n n (like_itself n)
 
   like : (n : Node) → IsLike n (changed_attr roles.Type (codes "type") type n)
   like n =

@@ -3,6 +3,7 @@ ghost use Rattle.std.specs.Prelude.{◌≡◌, IfOk};
 ghost use Rattle.form_tree.specs.Attributes.{with_attr};
 ghost use Rattle.form_tree.specs.Elements.{has_attr, passes};
 ghost use Rattle.form_tree.specs.Tree.{IsTree};
+ghost use Rattle.form_changes.specs.Changing.{role_of};
 ghost use Rattle.form_acts.specs.Acts.{after_attr, after_change, is_attr_change};
 ghost use Rattle.form_drafts.specs.Drafts.{draft_of};
 
@@ -57,6 +58,7 @@ fn change<'a>(
     name: &Text,
     value: &Option<Text>,
 ) -> Result<Draft<'a>, AllocError>
+    requires { role ≡ role_of name.now }
     ensures { IfOk result (λ draft.
         draft ≡ draft_of page.now (after_change role page.now.tree.nodes key name.now value.now)) }
 {

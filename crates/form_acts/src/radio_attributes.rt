@@ -1,17 +1,19 @@
 // A change of `checked`, or of an attribute that says the group of a radio button: `name`, `id` and
 // `form`.
 ghost use Rattle.std.specs.Prelude.{◌≡◌, ◌&&◌, IfOk, is_some};
+ghost use Rattle.std.specs.Option.{option_copied};
 ghost use Rattle.form_tree.specs.Elements.{passes};
 ghost use Rattle.form_tree.specs.Tree.{with_node};
+ghost use Rattle.form_owner.specs.Owners.{moves_of};
 ghost use Rattle.form_changes.specs.declared.role.Role.TheVariants as roles;
 ghost use Rattle.form_acts.specs.Acts.{after_change};
-ghost use Rattle.form_changes.specs.Changing.{changed_attr, follows_checked};
+ghost use Rattle.form_changes.specs.Changing.{changed_attr, follows_checked, role_of};
 ghost use Rattle.form_drafts.specs.Drafts.{draft_of};
 
 use crate::attributes::set_attr;
 use form_changes::{follows_checked, with_checked};
-use form_drafts::{Draft, moved_inputs, take_new_radio, take_radios};
-use form_owner::Owners;
+use form_drafts::{Draft, take_moved_radios, take_new_radio, take_radio};
+use form_owner::Move;
 use form_page::Page;
 use form_text::Text;
 use form_tree::{Key, Tree};
@@ -25,6 +27,7 @@ pub fn change_checked<'a>(
     name: &Text,
     value: &Option<Text>,
 ) -> Result<Draft<'a>, AllocError>
+    requires { role_of name.now ≡ roles.Checked }
     ensures { IfOk result (λ draft.
         draft ≡ draft_of page.now (after_change roles.Checked page.now.tree.nodes key name.now value.now)) }
 {
@@ -32,7 +35,7 @@ pub fn change_checked<'a>(
     if !checks(page.tree(), key, value) {
         return Ok(draft);
     }
-    take_new_radio(alloc, &mut draft, key)?;
+    take_radio(alloc, &mut draft, key)?;
     Ok(draft)
 }
 
@@ -84,6 +87,7 @@ pub fn change_name<'a>(
     name: &Text,
     value: &Option<Text>,
 ) -> Result<Draft<'a>, AllocError>
+    requires { role_of name.now ≡ roles.Name }
     ensures { IfOk result (λ draft.
         draft ≡ draft_of page.now (after_change roles.Name page.now.tree.nodes key name.now value.now)) }
 {
@@ -104,8 +108,32 @@ pub fn change_owner<'a>(
         draft ≡ draft_of page.now (after_change roles.Owner page.now.tree.nodes key name.now value.now)) }
 {
     let mut draft = set_attr(alloc, page, key, name, value)?;
-    let owners = Owners::build(alloc, draft.tree())?;
-    let moved = moved_inputs(alloc, page, draft.tree(), owners.answers())?;
-    take_radios(alloc, &mut draft, owners.answers(), &moved)?;
+    let moves = moves_of(alloc, page, key, name, value)?;
+    take_moved_radios(alloc, &mut draft, &moves)?;
     Ok(draft)
+}
+
+// The elements whose owner the change moves; none where there is no element of the key.
+fn moves_of(
+    alloc: Global,
+    page: &Page,
+    key: Key,
+    name: &Text,
+    value: &Option<Text>,
+) -> Result<Vec<Move>, AllocError>
+    ensures { IfOk result (λ moves. moves.items ≡ moves_of page.now.tree.nodes key name.now value.now) }
+{
+    if page.tree().place(key).is_none() {
+        return Ok(Vec::new(alloc));
+    }
+    page.moves(key, name.as_str(), lent(value))
+}
+
+fn lent(value: &Option<Text>) -> Option<&str>
+    ensures { option_copied result ≡ value.now }
+{
+    match value {
+        Some(value) => Some(value.as_str()),
+        None => None,
+    }
 }

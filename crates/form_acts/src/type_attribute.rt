@@ -6,7 +6,7 @@ ghost use Rattle.form_tree.specs.Elements.{kind_of};
 ghost use Rattle.form_tree.specs.Tree.{at_key, with_node, with_state};
 ghost use Rattle.form_changes.specs.declared.role.Role.TheVariants as roles;
 ghost use Rattle.form_acts.specs.Acts.{after_change};
-ghost use Rattle.form_changes.specs.Changing.{with_kind};
+ghost use Rattle.form_changes.specs.Changing.{role_of, with_kind};
 ghost use Rattle.form_changes.specs.Counting.{value_moved};
 ghost use Rattle.form_drafts.specs.Drafts.{draft_of};
 
@@ -16,7 +16,7 @@ use form_drafts::{Draft, sanitise, take_new_radio};
 use form_judge::kind_of;
 use form_page::Page;
 use form_text::Text;
-use form_tree::{Key, Node, State, Tree};
+use form_tree::{Key, Node, State};
 use form_types::Kind;
 use std::alloc::{AllocError, Global};
 
@@ -28,6 +28,7 @@ pub fn change_type<'a>(
     name: &Text,
     value: &Option<Text>,
 ) -> Result<Draft<'a>, AllocError>
+    requires { role_of name.now ≡ roles.Type }
     ensures { IfOk result (λ draft.
         draft ≡ draft_of page.now (after_change roles.Type page.now.tree.nodes key name.now value.now)) }
 {
@@ -36,7 +37,7 @@ pub fn change_type<'a>(
         return Ok(set);
     };
     let from = kind_of(node);
-    let to = kind_at(set.tree(), key, from);
+    let to = kind_at(&set, key, from);
     if !changes_state(node, from, to) {
         return Ok(set);
     }
@@ -47,10 +48,10 @@ pub fn change_type<'a>(
 }
 
 // The state of an input, or that one where there is no element.
-fn kind_at(tree: &Tree, key: Key, other: Kind) -> Kind
-    ensures { result ≡ option_map_or kind_of (at_key tree.now.nodes key) other }
+fn kind_at(draft: &Draft<'_>, key: Key, other: Kind) -> Kind
+    ensures { result ≡ option_map_or kind_of (at_key draft.now.nodes key) other }
 {
-    match tree.node(key) {
+    match draft.node(key) {
         Some(node) => kind_of(node),
         None => other,
     }
@@ -66,8 +67,9 @@ fn with_kind<'a>(
 ) -> Result<Draft<'a>, AllocError>
     ensures { IfOk result (λ after. after ≡ record draft.entry { nodes = with_node draft.entry.nodes key (with_kind from to) }) }
 {
-    let state = kind_state(alloc, draft.tree(), from, to, key)?;
-    let moved = value_moved(draft.tree(), from, to, key)?;
+    draft.page();
+    let state = kind_state(alloc, &draft, from, to, key)?;
+    let moved = value_moved(&draft, from, to, key)?;
     let after = with_value_attr(alloc, draft, key, moved)?;
     let done = put_if(after, key, state)?;
     Ok(done)
@@ -75,24 +77,29 @@ fn with_kind<'a>(
 
 fn kind_state(
     alloc: Global,
-    tree: &Tree,
+    draft: &Draft<'_>,
     from: Kind,
     to: Kind,
     key: Key,
 ) -> Result<Option<State>, AllocError>
-    ensures { IfOk result (λ state. state ≡ option_map (λ n. (with_kind from to n).state) (at_key tree.now.nodes key)) }
+    ensures { IfOk result (λ state. state ≡ option_map (λ n. (with_kind from to n).state) (at_key draft.now.nodes key)) }
 {
-    match tree.node(key) {
+    match draft.node(key) {
         Some(node) => Ok(Some(form_changes::with_kind(alloc, from, to, node)?)),
         None => Ok(None),
     }
 }
 
 // The value that becomes the attribute, where it does.
-fn value_moved(tree: &Tree, from: Kind, to: Kind, key: Key) -> Result<Option<Text>, AllocError>
-    ensures { IfOk result (λ moved. moved ≡ option_and_then (value_moved from to) (at_key tree.now.nodes key)) }
+fn value_moved(
+    draft: &Draft<'_>,
+    from: Kind,
+    to: Kind,
+    key: Key,
+) -> Result<Option<Text>, AllocError>
+    ensures { IfOk result (λ moved. moved ≡ option_and_then (value_moved from to) (at_key draft.now.nodes key)) }
 {
-    match tree.node(key) {
+    match draft.node(key) {
         Some(node) => value_moved_of(node, from, to),
         None => Ok(None),
     }

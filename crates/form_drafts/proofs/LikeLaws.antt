@@ -1,28 +1,24 @@
 -- Lists of elements that differ in states alone, and the steps along radio buttons.
-use Rattle.std.proofs.Common.{◌≡◌, ℕ, Bool, true, false, cond, List, [], ◌∷◌, map, Option, Some, None, Result, codes, refl, sym, ap, ap₂, ◌∙◌, subst}
-use Rattle.std.specs.List.{filter, fold, slice_get}
-use Rattle.std.specs.Option.{option_and_then, option_map, option_map_or}
+use Rattle.std.proofs.Common.{◌≡◌, ℕ, ◌≤◌, ◌++◌, Bool, true, false, cond, List, [], ◌∷◌, length, drop, map, Result, refl, sym, ap, ap₂, ◌∙◌, subst}
+use Rattle.std.specs.List.{filter, fold}
 use Rattle.std.specs.Result.{OnOk}
+use Rattle.std.proofs.lemmas.List.{append-nil, drop_all}
 use Rattle.std.proofs.lemmas.Result.{on_ok_weaker}
 use Rattle.std.proofs.lemmas.Bool.{cond_both}
-use Rattle.std.proofs.lemmas.Option.{none-some, same_Some, slice_get-map}
 use Rattle.form_tree.proofs.Laws.{KeepsElements, keeps_where, owner_of_map, share_group_map}
 use Rattle.form_tree.specs.declared.node.Key.{Key}
 use Rattle.form_tree.specs.declared.node.Node.{Node}
-use Rattle.form_tree.specs.Elements.{is_listed, is_select, is_textarea, passes}
+use Rattle.form_tree.specs.Elements.{is_select, is_textarea, passes}
 use Rattle.form_tree.specs.Selects.{is_option_of}
-use Rattle.form_tree.specs.Ownership.{owner_by, owner_of}
 use Rattle.form_tree.specs.RadioGroup.{is_checked, radio_group, share_group}
-use Rattle.form_tree.specs.Tree.{Nodes, attr_of, is_key, place_of, with_node}
-use Rattle.form_owner.specs.declared.answer.Answer.{Answer}
-use Rattle.form_owner.specs.Owners.{answer_for, owners_of}
-use Rattle.form_select.proofs.Laws.{placed_node, unplaced}
+use Rattle.form_tree.specs.Tree.{Nodes, is_key, with_node}
 use Rattle.form_page.specs.Page.{Page}
-use Rattle.form_page.specs.Settling.{changed_but, off, with_radio, with_radios, with_selectedness}
+use Rattle.form_page.specs.Settling.{changed_but, off, with_radio, with_selectedness}
 use Rattle.form_drafts.proofs.Mild.{IsMild, changed_where, through_radio, through_selectedness, through_value}
 use Rattle.form_drafts.proofs.EachLaws.{IsOnce, others_made}
+use Rattle.form_drafts.proofs.SoFarLaws.{frame_group, frame_keys, keys_passing}
 use Rattle.form_changes.specs.Changing.{set_checked}
-use Rattle.form_drafts.specs.Drafts.{AreLike, AreOwners, Draft, bare, draft_of, keys_but, with_each}
+use Rattle.form_drafts.specs.Drafts.{AreFramed, AreLike, AreOwnedBy, Draft, HaveGroupsOf, HaveOwnersOf, Moved, bare, draft_of, keys_but, with_each}
 use Rattle.form_drafts.specs.Resetting.{reset_input, reset_option, reset_textarea, with_options_reset, with_reset}
 use Rattle.form_changes.specs.Values.{with_value}
 
@@ -47,35 +43,11 @@ like_mild t f mild test u like = like_where t f (λ n. bare_same n (f n) (mild.k
 bare_keeps : KeepsElements bare
 bare_keeps = record { key = λ n. refl; parent = λ n. refl; tag = λ n. refl; attrs = λ n. refl }
 
-keys_bare : (ns : Nodes) → keys (map bare ns) ≡ keys ns
-keys_bare [] = refl
-keys_bare (n ∷ ns) = ap (λ (rest : List Key). n.key ∷ rest) (keys_bare ns)
-
-pub like_keys : (u t : Nodes) → AreLike u t → keys u ≡ keys t
-like_keys u t like = sym (keys_bare u) ∙ ap keys like ∙ keys_bare t
-
-pub like_shared : (u t : Nodes) → AreLike u t → (j k : Key) → share_group u j k ≡ share_group t j k
+like_shared : (u t : Nodes) → AreLike u t → (j k : Key) → share_group u j k ≡ share_group t j k
 like_shared u t like j k = sym (share_group_map bare bare_keeps u j k) ∙ ap (λ (ns : Nodes). share_group ns j k) like ∙ share_group_map bare bare_keeps t j k
 
-keys_filtered : (g : Key → Bool) (ns : Nodes) → keys (filter (λ n. g n.key) ns) ≡ filter g (keys ns)
-keys_filtered g [] = refl
-keys_filtered g (n ∷ ns) = go (g n.key) (keys_filtered g ns)
-  where
-    go : (b : Bool) → keys (filter (λ m. g m.key) ns) ≡ filter g (keys ns) → keys (cond b (n ∷ filter (λ m. g m.key) ns) (filter (λ m. g m.key) ns)) ≡ cond b (n.key ∷ filter g (keys ns)) (filter g (keys ns))
-    go true more = ap (λ (rest : List Key). n.key ∷ rest) more
-    go false more = more
-
-filter_tests : (g h : Key → Bool) (ks : List Key) → ((j : Key) → g j ≡ h j) → filter g ks ≡ filter h ks
-filter_tests g h [] same = refl
-filter_tests g h (k ∷ ks) same = ap₂ (λ (b : Bool) (rest : List Key). cond b (k ∷ rest) rest) (same k) (filter_tests g h ks same)
-
--- the group of a radio button is the same
-pub like_group : (u t : Nodes) → AreLike u t → (k : Key) → keys (radio_group t k) ≡ keys (radio_group u k)
-like_group u t like k =
-    keys_filtered (share_group t k) t
-    ∙ filter_tests (share_group t k) (share_group u k) (keys t) (λ j. sym (like_shared u t like k j))
-    ∙ ap (filter (share_group u k)) (sym (like_keys u t like))
-    ∙ sym (keys_filtered (share_group u k) u)
+pub like_groups : (u t : Nodes) → AreLike u t → HaveGroupsOf u t
+like_groups u t like j k = like_shared u t like j k
 
 -- ---- radio buttons
 
@@ -92,48 +64,11 @@ radio_passed u k unchecked = ap (λ (b : Bool). cond b (changed_but off (share_g
 
 -- ---- owners
 
-pub owners_are : (ns : Nodes) (answers : List Answer) → answers ≡ owners_of ns → AreOwners ns answers
-owners_are ns answers are = ap (map (λ (answer : Answer). answer.owner)) are ∙ go ns
-  where
-    go : (xs : Nodes) → map (λ (answer : Answer). answer.owner) (map (answer_for ns) xs) ≡ map (λ (n : Node). owner_of ns n.key) xs
-    go [] = refl
-    go (n ∷ xs) = ap (λ (rest : List (Option Key)). owner_of ns n.key ∷ rest) (go xs)
+owned_kept : (page : Nodes) (moved : Moved) (f : Node → Node) → KeepsElements f → (test : Node → Bool) (u : Nodes) → AreOwnedBy u page moved → AreOwnedBy (changed_where test f u) page moved
+owned_kept page moved f keeps test u owned k = owner_of_map (λ n. cond (test n) (f n) n) (keeps_where test f keeps) u k ∙ owned k
 
-pub owners_kept : (f : Node → Node) → KeepsElements f → (test : Node → Bool) (u : Nodes) (answers : List Answer) → AreOwners u answers → AreOwners (changed_where test f u) answers
-owners_kept f keeps test u answers are = are ∙ sym (go u)
-  where
-    change : Node → Node
-    change n = cond (test n) (f n) n
-
-    go : (xs : Nodes) → map (λ (n : Node). owner_of (map (λ m. cond (test m) (f m) m) u) n.key) (map (λ m. cond (test m) (f m) m) xs) ≡ map (λ (n : Node). owner_of u n.key) xs
-    go [] = refl
-    go (n ∷ xs) = ap₂ (λ (o : Option Key) (rest : List (Option Key)). o ∷ rest)
-        (owner_of_map (λ m. cond (test m) (f m) m) (keeps_where test f keeps) u (cond (test n) (f n) n).key ∙ ap (owner_of u) (cond_both (test n) (f n) n (λ (m : Node). m.key ≡ n.key) (λ _. keeps.key n) (λ _. refl))) (go xs)
-
-pub owners_after_radio : (u : Nodes) (k : Key) (answers : List Answer) → AreOwners u answers → AreOwners (with_radio u k) answers
-owners_after_radio u k answers are = through_radio (λ ns. AreOwners ns answers) (λ f mild test ns are. owners_kept f (record { key = mild.key; parent = mild.parent; tag = mild.tag; attrs = mild.attrs }) test ns answers are) u k are
-
--- who owns the element at a place
-pub owner_placed : (ns : Nodes) (answers : List Answer) → AreOwners ns answers → (k : Key) (i : ℕ) → Some i ≡ place_of ns k → option_and_then (λ (answer : Answer). answer.owner) (slice_get answers i) ≡ owner_of ns k
-owner_placed ns answers are k i placed =
-    let met = placed_node ns k i placed in
-    go _ (slice_get answers i) refl
-    (sym (slice_get-map (λ (answer : Answer). answer.owner) answers i) ∙ ap (λ (os : List (Option Key)). slice_get os i) are ∙ slice_get-map (λ (n : Node). owner_of ns n.key) ns i ∙ ap (option_map (λ (n : Node). owner_of ns n.key)) met.1)
-    ∙ ap (owner_of ns) met.3
-  where
-    go : (x : Option Key) (o : Option Answer) → slice_get answers i ≡ o → option_map (λ (answer : Answer). answer.owner) (slice_get answers i) ≡ Some x → option_and_then (λ (answer : Answer). answer.owner) (slice_get answers i) ≡ x
-    go x None e h = absurd (none-some _ (sym (ap (option_map (λ (answer : Answer). answer.owner)) e) ∙ h))
-    go x (Some answer) e h = ap (option_and_then (λ (answer : Answer). answer.owner)) e ∙ same_Some _ _ (sym (ap (option_map (λ (answer : Answer). answer.owner)) e) ∙ h)
-
--- nobody owns what is not there
-pub owner_unplaced : (ns : Nodes) (k : Key) → None ≡ place_of ns k → owner_of ns k ≡ None
-owner_unplaced ns k none = ap (λ (b : Bool). cond b (owner_by ns k (attr_of ns k (codes "form"))) None) (ap (λ (o : Option Node). option_map_or is_listed o false) (unplaced ns k none))
-
--- ---- a list of radio buttons
-
-pub radios_kept : (ks : List Key) (u : Nodes) (answers : List Answer) → AreOwners u answers → AreOwners (with_radios u ks) answers
-radios_kept [] u answers are = are
-radios_kept (k ∷ ks) u answers are = radios_kept ks (with_radio u k) answers (owners_after_radio u k answers are)
+owned_after_radio : (page : Nodes) (moved : Moved) (u : Nodes) (k : Key) → AreOwnedBy u page moved → AreOwnedBy (with_radio u k) page moved
+owned_after_radio page moved u k owned = through_radio (λ ns. AreOwnedBy ns page moved) (λ f mild test ns owned. owned_kept page moved f (record { key = mild.key; parent = mild.parent; tag = mild.tag; attrs = mild.attrs }) test ns owned) u k owned
 
 -- ---- resets
 
@@ -155,62 +90,65 @@ resets_like t (k ∷ ks) u like = resets_like t ks (with_reset u k) (reset_like 
 -- ---- the draft after a radio button was taken
 
 -- one that is not checked
-pub radio_still : (draft : Draft) (k : Key) (read : Nodes) → read ≡ draft.nodes → false ≡ passes is_checked read k → draft ≡ record draft { nodes = with_radio draft.nodes k }
-radio_still draft k read same unchecked =
-    ap (λ (ns : Nodes). record draft { nodes = ns }) (sym (radio_passed draft.nodes k (ap (λ (ns : Nodes). passes is_checked ns k) (sym same) ∙ sym unchecked)))
+pub radio_still : (draft : Draft) (k : Key) → false ≡ passes is_checked draft.nodes k → draft ≡ record draft { nodes = with_radio draft.nodes k }
+radio_still draft k unchecked = ap (λ (ns : Nodes). record draft { nodes = ns }) (sym (radio_passed draft.nodes k (sym unchecked)))
 
 -- one that is
-pub radio_done : {T E : Type 0} (r : Result T E) (draft next : Draft) (k : Key) (read : Nodes) (group others lent : List Key) → read ≡ draft.nodes → true ≡ passes is_checked read k → group ≡ keys (radio_group draft.nodes k) → others ≡ keys_but k group → lent ≡ others
+pub radio_done : {T E : Type 0} (r : Result T E) (draft next : Draft) (k : Key) (group others lent : List Key) → true ≡ passes is_checked draft.nodes k → group ≡ keys (radio_group draft.nodes k) → others ≡ keys_but k group → lent ≡ others
     → OnOk r (next ≡ record draft { nodes = with_each off draft.nodes lent }) → OnOk r (next ≡ record draft { nodes = with_radio draft.nodes k })
-radio_done r draft next k read group others lent same checked listed left is made =
-    on_ok_weaker r
-    (λ e. e ∙ ap (λ (ns : Nodes). record draft { nodes = ns }) (ap (with_each off draft.nodes) is ∙ radio_taken draft.nodes k group others (ap (λ (ns : Nodes). passes is_checked ns k) (sym same) ∙ sym checked) listed left))
-    made
+radio_done r draft next k group others lent checked listed left is made =
+    on_ok_weaker r (λ e. e ∙ ap (λ (ns : Nodes). record draft { nodes = ns }) (ap (with_each off draft.nodes) is ∙ radio_taken draft.nodes k group others (sym checked) listed left)) made
 
 -- the group of the page is that of the elements so far
-pub page_group : (draft : Draft) (k : Key) (page : Page) (members : List Key) → AreLike draft.nodes draft.page.tree.nodes → page ≡ draft.page → members ≡ keys (radio_group page.tree.nodes k) → members ≡ keys (radio_group draft.nodes k)
-page_group draft k page members like same listed = listed ∙ ap (λ (p : Page). keys (radio_group p.tree.nodes k)) same ∙ like_group draft.nodes draft.page.tree.nodes like k
+pub page_group : (draft : Draft) (k : Key) (page : Page) (members : List Key) → HaveGroupsOf draft.nodes draft.page.tree.nodes → AreFramed draft.nodes draft.page.tree.nodes → page ≡ draft.page → members ≡ keys (radio_group page.tree.nodes k) → members ≡ keys (radio_group draft.nodes k)
+page_group draft k page members groups like same listed = listed ∙ ap (λ (p : Page). keys (radio_group p.tree.nodes k)) same ∙ frame_group draft.nodes draft.page.tree.nodes like groups k
 
-pub read_group : (draft : Draft) (k : Key) (read : Nodes) (members : List Key) → read ≡ draft.nodes → members ≡ keys (radio_group read k) → members ≡ keys (radio_group draft.nodes k)
-read_group draft k read members same listed = listed ∙ ap (λ (ns : Nodes). keys (radio_group ns k)) same
-
-pub read_owners : (draft : Draft) (read : Nodes) (answers : List Answer) → read ≡ draft.nodes → AreOwners draft.nodes answers → AreOwners read answers
-read_owners draft read answers same are = subst (λ (ns : Nodes). AreOwners ns answers) (sym same) are
-
-pub built_owners : (draft : Draft) (read : Nodes) (built answers : List Answer) → read ≡ draft.nodes → built ≡ owners_of read → answers ≡ built → AreOwners draft.nodes answers
-built_owners draft read built answers same are is = owners_are draft.nodes answers (is ∙ are ∙ ap owners_of same)
+-- a walk along the elements of the page finds those so far
+pub walked_group : (draft : Draft) (k : Key) (nodes : Nodes) (group : List Key) (i : ℕ) → length nodes ≤ i → AreFramed draft.nodes draft.page.tree.nodes → nodes ≡ draft.page.tree.nodes
+    → group ++ keys (filter (λ n. share_group draft.nodes k n.key) (drop i nodes)) ≡ keys (filter (λ n. share_group draft.nodes k n.key) nodes) → group ≡ keys (radio_group draft.nodes k)
+walked_group draft k nodes group i past like same listed =
+    sym (ap (λ (ns : Nodes). group ++ keys (filter (λ n. share_group draft.nodes k n.key) ns)) (drop_all i nodes past) ∙ append-nil group) ∙ listed
+    ∙ ap (λ (ns : Nodes). keys (filter (λ n. share_group draft.nodes k n.key) ns)) same
+    ∙ keys_passing (share_group draft.nodes k) (share_group draft.nodes k) draft.page.tree.nodes draft.nodes (frame_keys draft.nodes draft.page.tree.nodes like) (λ j. refl)
 
 -- the elements of the next draft are like those of the page too
 pub like_next : (draft next : Draft) (k : Key) → next ≡ record draft { nodes = with_reset draft.nodes k } → AreLike draft.nodes draft.page.tree.nodes → AreLike next.nodes next.page.tree.nodes
 like_next draft next k made like = subst (λ (d : Draft). AreLike d.nodes d.page.tree.nodes) (sym made) (reset_like draft.page.tree.nodes draft.nodes k like)
 
-pub owners_next : (draft next : Draft) (k : Key) (answers : List Answer) → next ≡ record draft { nodes = with_radio draft.nodes k } → AreOwners draft.nodes answers → AreOwners next.nodes answers
-owners_next draft next k answers made are = subst (λ (d : Draft). AreOwners d.nodes answers) (sym made) (owners_after_radio draft.nodes k answers are)
+pub owned_next : (draft next : Draft) (k : Key) (moved : Moved) → next ≡ record draft { nodes = with_radio draft.nodes k } → AreOwnedBy draft.nodes draft.page.tree.nodes moved → AreOwnedBy next.nodes next.page.tree.nodes moved
+owned_next draft next k moved made owned = subst (λ (d : Draft). AreOwnedBy d.nodes d.page.tree.nodes moved) (sym made) (owned_after_radio draft.page.tree.nodes moved draft.nodes k owned)
+
+-- where nothing has moved
+pub none_moved : (ns page : Nodes) (moved : Moved) → moved.entries ≡ [] → HaveOwnersOf ns page → AreOwnedBy ns page moved
+none_moved ns page moved none owners k = owners k ∙ rw none refl
 
 -- an input that was reset
-pub input_next : (draft next : Draft) (k : Key) → next ≡ record draft { nodes = with_node draft.nodes k reset_input } → AreLike draft.nodes draft.page.tree.nodes → AreLike next.nodes next.page.tree.nodes
-input_next draft next k made like = subst (λ (d : Draft). AreLike d.nodes d.page.tree.nodes) (sym made) (input_like draft.page.tree.nodes draft.nodes k like)
+pub input_next : (draft next : Draft) (k : Key) → next ≡ record draft { nodes = with_node draft.nodes k reset_input } → AreLike draft.nodes draft.page.tree.nodes → HaveGroupsOf next.nodes next.page.tree.nodes
+input_next draft next k made like =
+    subst (λ (d : Draft). HaveGroupsOf d.nodes d.page.tree.nodes) (sym made) (like_groups (with_node draft.nodes k reset_input) draft.page.tree.nodes (input_like draft.page.tree.nodes draft.nodes k like))
 
 -- an element whose checkedness was set
-pub checked_next : (page : Page) (draft next : Draft) (k : Key) (on : Bool) → draft ≡ draft_of page page.tree.nodes → next ≡ record draft { nodes = with_node draft.nodes k (set_checked on) } → AreLike next.nodes next.page.tree.nodes
+pub checked_next : (page : Page) (draft next : Draft) (k : Key) (on : Bool) → draft ≡ draft_of page page.tree.nodes → next ≡ record draft { nodes = with_node draft.nodes k (set_checked on) } → HaveGroupsOf next.nodes next.page.tree.nodes
 checked_next page draft next k on begun made =
-    subst (λ (d : Draft). AreLike d.nodes d.page.tree.nodes) (sym (made ∙ ap (λ (d : Draft). let x : Draft = record d { nodes = with_node d.nodes k (set_checked on) } in x) begun))
-    (like_where page.tree.nodes (set_checked on) (λ n. refl) (is_key k) page.tree.nodes refl)
+    subst (λ (d : Draft). HaveGroupsOf d.nodes d.page.tree.nodes) (sym (made ∙ ap (λ (d : Draft). let x : Draft = record d { nodes = with_node d.nodes k (set_checked on) } in x) begun))
+    (like_groups (with_node page.tree.nodes k (set_checked on)) page.tree.nodes (like_where page.tree.nodes (set_checked on) (λ n. refl) (is_key k) page.tree.nodes refl))
 
 -- ---- the draft after a control was reset
 
-pub reset_of_select : {T E : Type 0} (r : Result T E) (draft next : Draft) (k : Key) (read : Nodes) → read ≡ draft.nodes → true ≡ passes is_select read k → OnOk r (next ≡ record draft { nodes = with_selectedness (with_options_reset draft.nodes k) k }) → OnOk r (next ≡ record draft { nodes = with_reset draft.nodes k })
-reset_of_select r draft next k read same is made =
-    on_ok_weaker r (λ e. e ∙ ap (λ (b : Bool). let x : Draft = record draft { nodes = cond b (with_selectedness (with_options_reset draft.nodes k) k) (cond (passes is_textarea draft.nodes k) (with_node draft.nodes k reset_textarea) (with_value (with_radio (with_node draft.nodes k reset_input) k) k)) } in x) (is ∙ ap (λ (ns : Nodes). passes is_select ns k) same)) made
+abbrev reset_by : Draft → Key → Bool → Bool → Draft
+reset_by draft k select textarea = record draft {
+  nodes = cond select (with_selectedness (with_options_reset draft.nodes k) k)
+      (cond textarea (with_node draft.nodes k reset_textarea) (with_value (with_radio (with_node draft.nodes k reset_input) k) k));
+}
 
-pub reset_of_textarea : {T E : Type 0} (r : Result T E) (draft next : Draft) (k : Key) (read again : Nodes) → read ≡ draft.nodes → false ≡ passes is_select read k → again ≡ draft.nodes → true ≡ passes is_textarea again k → OnOk r (next ≡ record draft { nodes = with_node draft.nodes k reset_textarea }) → OnOk r (next ≡ record draft { nodes = with_reset draft.nodes k })
-reset_of_textarea r draft next k read again same is same_again is_again made =
-    on_ok_weaker r (λ e. e ∙ ap₂ (λ (a b : Bool). let x : Draft = record draft { nodes = cond a (with_selectedness (with_options_reset draft.nodes k) k) (cond b (with_node draft.nodes k reset_textarea) (with_value (with_radio (with_node draft.nodes k reset_input) k) k)) } in x)
-    (is ∙ ap (λ (ns : Nodes). passes is_select ns k) same) (is_again ∙ ap (λ (ns : Nodes). passes is_textarea ns k) same_again)) made
+pub reset_of_select : {T E : Type 0} (r : Result T E) (draft next : Draft) (k : Key) → true ≡ passes is_select draft.nodes k → OnOk r (next ≡ record draft { nodes = with_selectedness (with_options_reset draft.nodes k) k }) → OnOk r (next ≡ record draft { nodes = with_reset draft.nodes k })
+reset_of_select r draft next k is made = on_ok_weaker r (λ e. e ∙ ap (λ (b : Bool). reset_by draft k b (passes is_textarea draft.nodes k)) is) made
 
-pub reset_of_input : {T E : Type 0} (r : Result T E) (draft first second last : Draft) (k : Key) (read again : Nodes) → read ≡ draft.nodes → false ≡ passes is_select read k → again ≡ draft.nodes → false ≡ passes is_textarea again k
+pub reset_of_textarea : {T E : Type 0} (r : Result T E) (draft next : Draft) (k : Key) → false ≡ passes is_select draft.nodes k → true ≡ passes is_textarea draft.nodes k → OnOk r (next ≡ record draft { nodes = with_node draft.nodes k reset_textarea }) → OnOk r (next ≡ record draft { nodes = with_reset draft.nodes k })
+reset_of_textarea r draft next k select textarea made = on_ok_weaker r (λ e. e ∙ ap₂ (reset_by draft k) select textarea) made
+
+pub reset_of_input : {T E : Type 0} (r : Result T E) (draft first second last : Draft) (k : Key) → false ≡ passes is_select draft.nodes k → false ≡ passes is_textarea draft.nodes k
     → first ≡ record draft { nodes = with_node draft.nodes k reset_input } → second ≡ record first { nodes = with_radio first.nodes k } → OnOk r (last ≡ record second { nodes = with_value second.nodes k }) → OnOk r (last ≡ record draft { nodes = with_reset draft.nodes k })
-reset_of_input r draft first second last k read again same is same_again is_again raw taken made =
+reset_of_input r draft first second last k select textarea raw taken made =
     on_ok_weaker r (λ e. e ∙ ap (λ (d : Draft). let x : Draft = record d { nodes = with_value d.nodes k } in x) (taken ∙ ap (λ (d : Draft). let x : Draft = record d { nodes = with_radio d.nodes k } in x) raw)
-    ∙ ap₂ (λ (a b : Bool). let x : Draft = record draft { nodes = cond a (with_selectedness (with_options_reset draft.nodes k) k) (cond b (with_node draft.nodes k reset_textarea) (with_value (with_radio (with_node draft.nodes k reset_input) k) k)) } in x)
-    (is ∙ ap (λ (ns : Nodes). passes is_select ns k) same) (is_again ∙ ap (λ (ns : Nodes). passes is_textarea ns k) same_again)) made
+    ∙ ap₂ (reset_by draft k) select textarea) made

@@ -1,5 +1,5 @@
 -- The steps along the options of a select, by their keys.
-use Rattle.std.proofs.Common.{◌≡◌, ℕ, suc, ◌==◌, Bool, true, false, not, ◌&&◌, cond, List, [], ◌∷◌, ◌++◌, map, get_or, Option, Some, None, Result, refl, sym, ap, ◌∙◌, subst, arith}
+use Rattle.std.proofs.Common.{◌≡◌, suc, ◌==◌, Bool, true, false, not, ◌&&◌, cond, List, [], ◌∷◌, ◌++◌, map, get_or, Option, Some, None, Result, refl, sym, ap, ◌∙◌, subst, arith}
 use Rattle.std.specs.List.{All, filter, find}
 use Rattle.std.specs.Option.{option_map, option_map_or}
 use Rattle.std.specs.Result.{OnOk}
@@ -214,26 +214,22 @@ options_reset ns s listed all = ap (with_each reset_option ns) all ∙ passing_m
 same_nodes : (draft : Draft) (ns : Nodes) → ns ≡ draft.nodes → draft ≡ record draft { nodes = ns }
 same_nodes draft ns same = ap (λ (x : Nodes). record draft { nodes = x }) (sym same)
 
-pub draft_nowhere : (draft : Draft) (k : Key) (read : Nodes) → read ≡ draft.nodes → None ≡ select_of read k → draft ≡ record draft { nodes = with_selection draft.nodes k }
-draft_nowhere draft k read same none = same_nodes draft _ (selection_nowhere draft.nodes k (none ∙ ap (λ (ns : Nodes). select_of ns k) same))
+pub draft_nowhere : (draft : Draft) (k : Key) → None ≡ select_of draft.nodes k → draft ≡ record draft { nodes = with_selection draft.nodes k }
+draft_nowhere draft k none = same_nodes draft _ (selection_nowhere draft.nodes k none)
 
-pub draft_of_many : (draft : Draft) (k s : Key) (read again : Nodes) → read ≡ draft.nodes → again ≡ draft.nodes → Some s ≡ select_of read k → true ≡ is_multiple again s → draft ≡ record draft { nodes = with_selection draft.nodes k }
-draft_of_many draft k s read again same same_again of many =
-    same_nodes draft _ (selection_of_many draft.nodes k s (of ∙ ap (λ (ns : Nodes). select_of ns k) same) (ap (λ (ns : Nodes). is_multiple ns s) (sym same_again) ∙ sym many))
+pub draft_of_many : (draft : Draft) (k s : Key) → Some s ≡ select_of draft.nodes k → true ≡ is_multiple draft.nodes s → draft ≡ record draft { nodes = with_selection draft.nodes k }
+draft_of_many draft k s of many = same_nodes draft _ (selection_of_many draft.nodes k s of (sym many))
 
-pub draft_selected : {T E : Type 0} (r : Result T E) (draft next : Draft) (k s : Key) (read again third : Nodes) (listed others lent : List Key) → read ≡ draft.nodes → again ≡ draft.nodes → third ≡ draft.nodes → Some s ≡ select_of read k → false ≡ is_multiple again s → listed ≡ keys (options third s) → others ≡ keys_but k listed → lent ≡ others
+pub draft_selected : {T E : Type 0} (r : Result T E) (draft next : Draft) (k s : Key) (listed others lent : List Key) → Some s ≡ select_of draft.nodes k → false ≡ is_multiple draft.nodes s → listed ≡ keys (options draft.nodes s) → others ≡ keys_but k listed → lent ≡ others
     → OnOk r (next ≡ record draft { nodes = with_each not_selected draft.nodes lent }) → OnOk r (next ≡ record draft { nodes = with_selection draft.nodes k })
-draft_selected r draft next k s read again third listed others lent same same_again same_third of single all left is made =
-    on_ok_weaker r
-    (λ e. e ∙ ap (λ (ns : Nodes). record draft { nodes = ns }) (ap (with_each not_selected draft.nodes) is
-    ∙ selection_made draft.nodes k s listed others (of ∙ ap (λ (ns : Nodes). select_of ns k) same) (ap (λ (ns : Nodes). is_multiple ns s) (sym same_again) ∙ sym single) (all ∙ ap (λ (ns : Nodes). keys (options ns s)) same_third) left))
-    made
+draft_selected r draft next k s listed others lent of single all left is made =
+    on_ok_weaker r (λ e. e ∙ ap (λ (ns : Nodes). record draft { nodes = ns }) (ap (with_each not_selected draft.nodes) is ∙ selection_made draft.nodes k s listed others of (sym single) all left)) made
 
-pub draft_many : (draft : Draft) (s : Key) (read : Nodes) → read ≡ draft.nodes → true ≡ is_multiple read s → draft ≡ record draft { nodes = with_selectedness draft.nodes s }
-draft_many draft s read same many = same_nodes draft _ (settled_many draft.nodes s (ap (λ (ns : Nodes). is_multiple ns s) (sym same) ∙ sym many))
+pub draft_many : (draft : Draft) (s : Key) → true ≡ is_multiple draft.nodes s → draft ≡ record draft { nodes = with_selectedness draft.nodes s }
+draft_many draft s many = same_nodes draft _ (settled_many draft.nodes s (sym many))
 
-pub draft_no_select : (draft : Draft) (s : Key) (read : Nodes) → read ≡ draft.nodes → false ≡ passes is_select read s → draft ≡ record draft { nodes = with_selectedness draft.nodes s }
-draft_no_select draft s read same none = same_nodes draft _ (settled_nothing draft.nodes s (ap (λ (ns : Nodes). passes is_select ns s) (sym same) ∙ sym none))
+pub draft_no_select : (draft : Draft) (s : Key) → false ≡ passes is_select draft.nodes s → draft ≡ record draft { nodes = with_selectedness draft.nodes s }
+draft_no_select draft s none = same_nodes draft _ (settled_nothing draft.nodes s (sym none))
 
 -- what was read of the elements so far for the algorithm
 pub record IsRead (draft : Draft) (s : Key) (listed : List Key) (last : Option Key) : Type 0 where
@@ -242,12 +238,12 @@ pub record IsRead (draft : Draft) (s : Key) (listed : List Key) (last : Option K
   pub all : listed ≡ keys (options draft.nodes s)
   pub met : last ≡ find (passes is_selected draft.nodes) (reverse listed)
 
-pub are_read : (draft : Draft) (s : Key) (listed lent : List Key) (last : Option Key) (first third fourth : Nodes) → IsTree draft.nodes → first ≡ draft.nodes → false ≡ is_multiple first s → third ≡ draft.nodes → listed ≡ keys (options third s) → fourth ≡ draft.nodes → lent ≡ listed → last ≡ find (passes is_selected fourth) (reverse lent) → IsRead draft s listed last
-are_read draft s listed lent last first third fourth tree same_first single same_third all same_fourth is found = record {
+pub are_read : (draft : Draft) (s : Key) (listed lent : List Key) (last : Option Key) → IsTree draft.nodes → false ≡ is_multiple draft.nodes s → listed ≡ keys (options draft.nodes s) → lent ≡ listed → last ≡ find (passes is_selected draft.nodes) (reverse lent) → IsRead draft s listed last
+are_read draft s listed lent last tree single all is found = record {
   tree = tree;
-  single = ap (λ (ns : Nodes). is_multiple ns s) (sym same_first) ∙ sym single;
-  all = all ∙ ap (λ (ns : Nodes). keys (options ns s)) same_third;
-  met = found ∙ ap (λ (ns : Nodes). find (passes is_selected ns) (reverse lent)) same_fourth ∙ ap (λ (ks : List Key). find (passes is_selected draft.nodes) (reverse ks)) is;
+  single = sym single;
+  all = all;
+  met = found ∙ ap (λ (ks : List Key). find (passes is_selected draft.nodes) (reverse ks)) is;
 }
 
 pub draft_last : {T E : Type 0} (r : Result T E) (draft next : Draft) (s : Key) (listed others lent : List Key) (found : Option Key) (last : Key) → IsRead draft s listed found → found ≡ Some last → others ≡ keys_but last listed → lent ≡ others
@@ -255,36 +251,24 @@ pub draft_last : {T E : Type 0} (r : Result T E) (draft next : Draft) (s : Key) 
 draft_last r draft next s listed others lent found last read here left is made =
     on_ok_weaker r (λ e. e ∙ ap (λ (ns : Nodes). record draft { nodes = ns }) (ap (with_each not_selected draft.nodes) is ∙ settled_last draft.nodes read.tree s last listed others read.single read.all (sym here ∙ read.met) left)) made
 
-pub draft_wide : (draft : Draft) (s : Key) (listed : List Key) (found : Option Key) (again : Nodes) (size : ℕ) → IsRead draft s listed found → found ≡ None → again ≡ draft.nodes → size ≡ display_size again s → (size == 1) ≡ false → draft ≡ record draft { nodes = with_selectedness draft.nodes s }
-draft_wide draft s listed found again size read none same is wide =
-    same_nodes draft _ (settled_wide draft.nodes read.tree s listed read.single read.all (sym none ∙ read.met) (ap (λ (ns : Nodes). display_size ns s == 1) (sym same) ∙ ap (λ n. n == 1) (sym is) ∙ wide))
-
-pub draft_first : {T E : Type 0} (r : Result T E) (draft next : Draft) (s : Key) (listed lent : List Key) (found : Option Key) (again : Nodes) (size : ℕ) → IsRead draft s listed found → found ≡ None → again ≡ draft.nodes → size ≡ display_size again s → (size == 1) ≡ true → lent ≡ listed
-    → OnOk r (next ≡ record draft { nodes = with_first_of draft.nodes lent }) → OnOk r (next ≡ record draft { nodes = with_selectedness draft.nodes s })
-draft_first r draft next s listed lent found again size read none same is narrow lend made =
-    on_ok_weaker r
-    (λ e. e ∙ ap (λ (ns : Nodes). record draft { nodes = ns }) (ap (with_first_of draft.nodes) lend ∙ settled_first draft.nodes read.tree s listed read.single read.all (sym none ∙ read.met) (ap (λ (ns : Nodes). display_size ns s == 1) (sym same) ∙ ap (λ n. n == 1) (sym is) ∙ narrow)))
-    made
-
-pub draft_reset : {T E : Type 0} (r : Result T E) (draft next last : Draft) (s : Key) (read : Nodes) (listed lent : List Key) → read ≡ draft.nodes → listed ≡ keys (options read s) → lent ≡ listed → next ≡ record draft { nodes = with_each reset_option draft.nodes lent }
+pub draft_reset : {T E : Type 0} (r : Result T E) (draft next last : Draft) (s : Key) (listed lent : List Key) → listed ≡ keys (options draft.nodes s) → lent ≡ listed → next ≡ record draft { nodes = with_each reset_option draft.nodes lent }
     → OnOk r (last ≡ record next { nodes = with_selectedness next.nodes s }) → OnOk r (last ≡ record draft { nodes = with_selectedness (with_options_reset draft.nodes s) s })
-draft_reset r draft next last s read listed lent same all is made settled =
+draft_reset r draft next last s listed lent all is made settled =
     on_ok_weaker r
     (λ e. e ∙ ap (λ (d : Draft). let x : Draft = record d { nodes = with_selectedness d.nodes s } in x)
-    (made ∙ ap (λ (ns : Nodes). let x : Draft = record draft { nodes = ns } in x) (ap (with_each reset_option draft.nodes) is ∙ options_reset draft.nodes s listed (all ∙ ap (λ (ns : Nodes). keys (options ns s)) same))))
+    (made ∙ ap (λ (ns : Nodes). let x : Draft = record draft { nodes = ns } in x) (ap (with_each reset_option draft.nodes) is ∙ options_reset draft.nodes s listed all)))
     settled
 
 -- ---- where no option is selected
 
-line_still : (draft : Draft) (s : Key) (read first : Nodes) → read ≡ draft.nodes → false ≡ (display_size read s == 1) → draft ≡ record draft { nodes = cond (display_size draft.nodes s == 1) first draft.nodes }
-line_still draft s read first same wide = ap (λ (b : Bool). let x : Draft = record draft { nodes = cond b first draft.nodes } in x) (wide ∙ ap (λ (ns : Nodes). display_size ns s == 1) same)
+abbrev line_by : Draft → List Key → Bool → Draft
+line_by draft listed narrow = record draft { nodes = cond narrow (with_first_of draft.nodes listed) draft.nodes }
 
-pub line_wide : (draft : Draft) (s : Key) (read : Nodes) (listed : List Key) → read ≡ draft.nodes → false ≡ (display_size read s == 1) → draft ≡ record draft { nodes = cond (display_size draft.nodes s == 1) (with_first_of draft.nodes listed) draft.nodes }
-line_wide draft s read listed same wide = line_still draft s read (with_first_of draft.nodes listed) same wide
+pub line_wide : (draft : Draft) (s : Key) (listed : List Key) → false ≡ (display_size draft.nodes s == 1) → draft ≡ record draft { nodes = cond (display_size draft.nodes s == 1) (with_first_of draft.nodes listed) draft.nodes }
+line_wide draft s listed wide = ap (line_by draft listed) wide
 
-pub line_first : {T E : Type 0} (r : Result T E) (draft next : Draft) (s : Key) (read : Nodes) (listed : List Key) → read ≡ draft.nodes → true ≡ (display_size read s == 1) → OnOk r (next ≡ record draft { nodes = with_first_of draft.nodes listed }) → OnOk r (next ≡ record draft { nodes = cond (display_size draft.nodes s == 1) (with_first_of draft.nodes listed) draft.nodes })
-line_first r draft next s read listed same narrow made =
-    on_ok_weaker r (λ e. e ∙ ap (λ (b : Bool). let x : Draft = record draft { nodes = cond b (with_first_of draft.nodes listed) draft.nodes } in x) (narrow ∙ ap (λ (ns : Nodes). display_size ns s == 1) same)) made
+pub line_first : {T E : Type 0} (r : Result T E) (draft next : Draft) (s : Key) (listed : List Key) → true ≡ (display_size draft.nodes s == 1) → OnOk r (next ≡ record draft { nodes = with_first_of draft.nodes listed }) → OnOk r (next ≡ record draft { nodes = cond (display_size draft.nodes s == 1) (with_first_of draft.nodes listed) draft.nodes })
+line_first r draft next s listed narrow made = on_ok_weaker r (λ e. e ∙ ap (line_by draft listed) narrow) made
 
 settled_by_line : (draft : Draft) (s : Key) (listed : List Key) (found : Option Key) → IsRead draft s listed found → found ≡ None → (b : Bool) → (display_size draft.nodes s == 1) ≡ b → cond b (with_first_of draft.nodes listed) draft.nodes ≡ with_selectedness draft.nodes s
 settled_by_line draft s listed found read none true e = settled_first draft.nodes read.tree s listed read.single read.all (sym none ∙ read.met) e

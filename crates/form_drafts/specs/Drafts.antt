@@ -1,15 +1,19 @@
 -- The elements of a page so far, while an act is made of raw changes, step by step.
-use Rattle.std.specs.Prelude.{◌≡◌, not, Bool, List, [], map, filter, find, fold, if◌then◌else◌}
+use Rattle.std.specs.Prelude.{◌≡◌, ℕ, not, Bool, List, [], ◌∷◌, map, filter, find, fold, Option, Some, IsSome, unwrap_or, if◌then◌else◌}
+use Rattle.std.specs.BTreeMap.{BTreeMap, get}
 use Rattle.std.specs.Option.{option_map_or}
+use Rattle.std.specs.Ordering.{is_eq, nat_cmp}
 use Rattle.form_tree.specs.declared.node.Key.{Key}
 use Rattle.form_tree.specs.declared.node.Node.{Node}
 use Rattle.form_tree.specs.Elements.{passes, same_key}
 use Rattle.form_tree.specs.Ownership.{owner_of}
+use Rattle.form_tree.specs.RadioGroup.{share_group}
 use Rattle.form_tree.specs.Selects.{is_disabled_option, select_of}
-use Rattle.form_tree.specs.Tree.{Nodes, empty_state, with_node}
-use Rattle.form_owner.specs.declared.answer.Answer.{Answer}
+use Rattle.form_tree.specs.Tree.{Nodes, at_key, empty_state, with_node}
+use Rattle.form_owner.specs.declared.moves.Move.{Move}
 use Rattle.form_page.specs.declared.edit.Edit.{Edit}
-use Rattle.form_page.specs.Editing.{AreThere, edited}
+use Rattle.form_page.specs.declared.file.File.{File}
+use Rattle.form_page.specs.Editing.{AreThere, edited, edited_key, files_after, nodes_after}
 use Rattle.form_page.specs.Page.{Page}
 use Rattle.form_page.specs.Settling.{now_selected, with_selectedness, with_selection}
 
@@ -30,7 +34,44 @@ pub record AreEditsTo (page : Page) (ns : Nodes) (edits : List Edit) : Type 0 wh
   pub made : edited page edits ≡ page_with page ns
   pub there : AreThere page.tree.nodes edits
 
--- ---- what is found of a page where states alone have changed
+-- The node is what a raw change makes of the element of its key, and all that the change makes.
+pub record IsMadeBy (ns : Nodes) (next : Node) (edit : Edit) : Type 0 where
+  pub there : IsSome (at_key ns next.key)
+  pub key : edited_key edit ≡ Some next.key
+  pub made : nodes_after ns edit ≡ with_node ns next.key (λ n. next)
+  pub files : (files : List File) → files_after files edit ≡ files
+
+-- ---- the elements that have changed, beside those of the page
+
+-- each by the number of its key
+abbrev pub Changed : Type 0
+Changed = BTreeMap ℕ Node
+
+-- one more has changed
+abbrev pub IsWith : Changed → Node → Changed → Type 0
+IsWith changed next with_next = (q : ℕ) → get nat_cmp with_next q ≡ (if is_eq (nat_cmp next.key.0 q) then Some next else get nat_cmp changed q)
+
+-- an element so far: the changed one of its key, where there is one
+abbrev pub node_so_far : Changed → Node → Node
+node_so_far changed n = unwrap_or (get nat_cmp changed n.key.0) n
+
+abbrev pub nodes_so_far : Nodes → Changed → Nodes
+nodes_so_far ns changed = map (node_so_far changed) ns
+
+-- each that has changed stands at its own key, and the raw changes make what they are now
+pub record AreChanges (page : Page) (changed : Changed) (edits : List Edit) : Type 0 where
+  pub keys : (k : Key) (n : Node) → get nat_cmp changed k.0 ≡ Some n → n.key ≡ k
+  pub makes : AreEditsTo page (nodes_so_far page.tree.nodes changed) edits
+
+-- ---- what two lists of elements have in common
+
+-- an element without its attributes, its text and its state
+abbrev pub framed : Node → Node
+framed n = record n { attrs = []; text = []; state = empty_state }
+
+-- two lists of elements have the same keys, parents and tags
+abbrev pub AreFramed : Nodes → Nodes → Type 0
+AreFramed ns page = map framed ns ≡ map framed page
 
 -- an element without its text and its state
 abbrev pub bare : Node → Node
@@ -40,9 +81,30 @@ bare n = record n { text = []; state = empty_state }
 abbrev pub AreLike : Nodes → Nodes → Type 0
 AreLike ns page = map bare ns ≡ map bare page
 
--- what is kept of each element says who owns it
-abbrev pub AreOwners : Nodes → List Answer → Type 0
-AreOwners ns answers = map (λ answer. answer.owner) answers ≡ map (λ n. owner_of ns n.key) ns
+-- no radio button group differs
+abbrev pub HaveGroupsOf : Nodes → Nodes → Type 0
+HaveGroupsOf ns page = (j k : Key) → share_group ns j k ≡ share_group page j k
+
+-- no owner differs
+abbrev pub HaveOwnersOf : Nodes → Nodes → Type 0
+HaveOwnersOf ns page = (k : Key) → owner_of ns k ≡ owner_of page k
+
+-- the owners that elements come to, by the numbers of their keys
+abbrev pub Moved : Type 0
+Moved = BTreeMap ℕ (Option Key)
+
+-- the owner of an element: the one that it has come to, or that of the page
+abbrev pub owner_so_far : Nodes → Moved → Key → Option Key
+owner_so_far page moved k = unwrap_or (get nat_cmp moved k.0) (owner_of page k)
+
+-- owners differ from those of a page by these alone
+abbrev pub AreOwnedBy : Nodes → Nodes → Moved → Type 0
+AreOwnedBy ns page moved = (k : Key) → owner_of ns k ≡ owner_so_far page moved k
+
+-- the owner that an element has come to after a list of moves, of which a later one counts more
+abbrev pub becomes_by : List Move → Option (Option Key) → Key → Option (Option Key)
+becomes_by [] so_far k = so_far
+becomes_by (m ∷ ms) so_far k = becomes_by ms (if same_key m.key k then Some m.becomes else so_far) k
 
 -- ---- changes of several elements
 

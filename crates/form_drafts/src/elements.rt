@@ -5,6 +5,7 @@ ghost use Rattle.form_tree.specs.Elements.{is_option, is_select, passes};
 ghost use Rattle.form_tree.specs.RadioGroup.{is_radio};
 ghost use Rattle.form_tree.specs.Selects.{is_disabled_optgroup, is_disabled_option, is_multiple, select_of};
 
+use crate::draft::Draft;
 use form_changes::is_input;
 use form_judge::kind_of;
 use form_tree::{Key, Node, Tree};
@@ -27,12 +28,12 @@ pub fn is_option_at(tree: &Tree, key: Key) -> bool
     }
 }
 
-/// Whether the element of a key is there and a select.
-pub fn is_select_at(tree: &Tree, key: Key) -> bool
-    ensures { result ≡ passes is_select tree.now.nodes key }
+/// Whether the element of a key is there so far and a select.
+pub fn is_select_at(draft: &Draft<'_>, key: Key) -> bool
+    ensures { result ≡ passes is_select draft.now.nodes key }
 {
-    match tree.tag(key) {
-        Some(tag) => tag.is_select(),
+    match draft.node(key) {
+        Some(node) => node.tag.is_select(),
         None => false,
     }
 }
@@ -77,7 +78,14 @@ fn is_disabled_optgroup_at(tree: &Tree, key: Key) -> bool
     ensures { result ≡ passes is_disabled_optgroup tree.now.nodes key }
 {
     match tree.node(key) {
-        Some(node) => node.tag.is_optgroup() && node.has_attr("disabled"),
+        Some(node) => is_disabled_optgroup(node),
         None => false,
     }
+}
+
+/// Whether it is an optgroup that is disabled.
+pub fn is_disabled_optgroup(node: &Node) -> bool
+    ensures { result ≡ is_disabled_optgroup node.now }
+{
+    node.tag.is_optgroup() && node.has_attr("disabled")
 }

@@ -2,11 +2,13 @@
 //! buttons, options and the controls of a form that is reset.
 #![tactic(auto)]
 
+mod changed;
 mod draft;
 mod elements;
 mod marking;
 mod options;
 mod owned;
+mod owners;
 mod radios;
 mod reset_states;
 mod resetting;
@@ -16,5 +18,5 @@ pub use elements::{is_disabled_option, is_multiple, is_radio, select_of};
 pub use marking::{set_checked, set_selected};
 pub use options::{is_selected_at, settle, settle_select_of, take_selected};
 pub use owned::is_owned_by;
-pub use radios::{moved_inputs, take_new_radio, take_radio, take_radios};
+pub use radios::{take_moved_radios, take_new_radio, take_radio};
 pub use resetting::{reset, sanitise};

@@ -1,85 +1,102 @@
 // The radio buttons after a change of checkedness, of a group or of an owner (HTML, "Radio Button
 // state").
-ghost use Rattle.std.specs.Prelude.{◌≡◌, ◌&&◌, IfOk, OnOk, map, not};
-ghost use Rattle.std.specs.List.{slice_get};
-ghost use Rattle.std.specs.Option.{option_and_then};
-ghost use Rattle.form_tree.specs.Elements.{is_input, passes, same_owner};
+ghost use Rattle.std.specs.Prelude.{◌≡◌, IfOk, OnOk, map};
+ghost use Rattle.form_tree.specs.Elements.{passes, same_owner};
 ghost use Rattle.form_tree.specs.Ownership.{owner_of};
 ghost use Rattle.form_tree.specs.RadioGroup.{is_checked, is_radio, name_of, radio_group, same_name, share_group};
 ghost use Rattle.form_tree.specs.Tree.{with_node};
+ghost use Rattle.form_owner.specs.Owners.{moves_between};
 ghost use Rattle.form_page.specs.Settling.{moved_inputs, off, with_radio, with_radios};
-ghost use Rattle.form_drafts.specs.Drafts.{AreLike, AreOwners, keys_but, with_each};
+ghost use Rattle.form_drafts.specs.Drafts.{AreOwnedBy, HaveGroupsOf, HaveOwnersOf, keys_but, with_each};
 
 use crate::draft::Draft;
 use crate::elements::is_radio;
-use form_changes::{is_input, with_checked};
-use form_owner::{Answer, Owners};
-use form_page::Page;
-use form_tree::{Key, Node, Tree};
+use crate::owners::{inputs_of, moved_of, owner_of};
+use form_changes::with_checked;
+use form_owner::Move;
+use form_tree::{Key, Node};
 use std::alloc::{AllocError, Global};
+use std::collections::BTreeMap;
 
-/// A radio button that is checked unchecks all others of its group, which is that of the page: the
-/// elements so far differ in states alone from those of the page.
+/// A radio button that is checked unchecks all others of its group, which is that of the page: no
+/// group has changed.
 pub fn take_radio(alloc: Global, draft: &mut Draft<'_>, key: Key) -> Result<(), AllocError>
-    requires { AreLike draft.old.nodes draft.old.page.tree.nodes }
+    requires { HaveGroupsOf draft.old.nodes draft.old.page.tree.nodes }
     ensures { OnOk result (draft.new ≡ record draft.old { nodes = with_radio draft.old.nodes key }) }
 {
-    if !is_checked_at(draft.tree(), key) {
+    if !is_checked_at(draft, key) {
         return Ok(());
     }
     let others = others_of(alloc, draft.page().members(key), key)?;
     uncheck_all(draft, &others)
 }
 
-/// The same for each of these keys in order, by who owns the elements so far.
-pub fn take_radios(
+/// The same for a radio button that may have come to another group, where no owner has changed. Its
+/// group is looked for among all elements.
+pub fn take_new_radio(alloc: Global, draft: &mut Draft<'_>, key: Key) -> Result<(), AllocError>
+    requires { HaveOwnersOf draft.old.nodes draft.old.page.tree.nodes }
+    ensures { OnOk result (draft.new ≡ record draft.old { nodes = with_radio draft.old.nodes key }) }
+{
+    let moved = BTreeMap::new(alloc);
+    take_owned_radio(alloc, draft, &moved, key)
+}
+
+/// The same for each input among the elements that moved, in tree order.
+pub fn take_moved_radios(
     alloc: Global,
     draft: &mut Draft<'_>,
-    answers: &[Answer],
+    moves: &[Move],
+) -> Result<(), AllocError>
+    requires { moves.now ≡ moves_between draft.old.page.tree.nodes draft.old.nodes }
+    ensures { OnOk result (draft.new ≡ record draft.old {
+      nodes = with_radios draft.old.nodes (moved_inputs draft.old.page.tree.nodes draft.old.nodes);
+    }) }
+{
+    let tree = draft.page().tree();
+    tree.len();
+    let moved = moved_of(alloc, moves)?;
+    let keys = inputs_of(alloc, tree, moves)?;
+    take_radios(alloc, draft, &moved, &keys)
+}
+
+// The same for each of these keys in order, by the owners that elements have come to.
+fn take_radios(
+    alloc: Global,
+    draft: &mut Draft<'_>,
+    moved: &BTreeMap<u32, Option<Key>>,
     keys: &[Key],
 ) -> Result<(), AllocError>
-    requires { AreOwners draft.old.nodes answers.now }
+    requires { AreOwnedBy draft.old.nodes draft.old.page.tree.nodes moved.now }
     ensures { OnOk result (draft.new ≡ record draft.old { nodes = with_radios draft.old.nodes keys.now }) }
 {
     for key in keys {
-        take_owned_radio(alloc, draft, answers, *key)?;
+        take_owned_radio(alloc, draft, moved, *key)?;
     }
     Ok(())
-}
-
-/// The same for one radio button, by who owns the elements so far.
-pub fn take_new_radio(alloc: Global, draft: &mut Draft<'_>, key: Key) -> Result<(), AllocError>
-    ensures { OnOk result (draft.new ≡ record draft.old { nodes = with_radio draft.old.nodes key }) }
-{
-    if !is_checked_at(draft.tree(), key) {
-        return Ok(());
-    }
-    let owners = Owners::build(alloc, draft.tree())?;
-    take_owned_radio(alloc, draft, owners.answers(), key)
 }
 
 fn take_owned_radio(
     alloc: Global,
     draft: &mut Draft<'_>,
-    answers: &[Answer],
+    moved: &BTreeMap<u32, Option<Key>>,
     key: Key,
 ) -> Result<(), AllocError>
-    requires { AreOwners draft.old.nodes answers.now }
+    requires { AreOwnedBy draft.old.nodes draft.old.page.tree.nodes moved.now }
     ensures { OnOk result (draft.new ≡ record draft.old { nodes = with_radio draft.old.nodes key }) }
 {
-    if !is_checked_at(draft.tree(), key) {
+    if !is_checked_at(draft, key) {
         return Ok(());
     }
-    let group = group_of(alloc, draft.tree(), answers, key)?;
+    let group = group_of(alloc, draft, moved, key)?;
     let others = others_of(alloc, &group, key)?;
     uncheck_all(draft, &others)
 }
 
-fn is_checked_at(tree: &Tree, key: Key) -> bool
-    ensures { result ≡ passes is_checked tree.now.nodes key }
+fn is_checked_at(draft: &Draft<'_>, key: Key) -> bool
+    ensures { result ≡ passes is_checked draft.now.nodes key }
 {
-    match tree.state(key) {
-        Some(state) => state.checked,
+    match draft.node(key) {
+        Some(node) => is_checked(node),
         None => false,
     }
 }
@@ -125,20 +142,20 @@ fn is_checked(node: &Node) -> bool
     node.state.checked
 }
 
-// The radio button group of an element, by who owns the elements.
+// The radio button group of an element, by the owners that elements have come to.
 fn group_of(
     alloc: Global,
-    tree: &Tree,
-    answers: &[Answer],
+    draft: &Draft<'_>,
+    moved: &BTreeMap<u32, Option<Key>>,
     key: Key,
 ) -> Result<Vec<Key>, AllocError>
-    requires { AreOwners tree.now.nodes answers.now }
-    ensures { IfOk result (λ group. group.items ≡ map (λ n. n.key) (radio_group tree.now.nodes key)) }
+    requires { AreOwnedBy draft.now.nodes draft.now.page.tree.nodes moved.now }
+    ensures { IfOk result (λ group. group.items ≡ map (λ n. n.key) (radio_group draft.now.nodes key)) }
 {
-    let nodes = tree.nodes();
+    let nodes = draft.page().tree().nodes();
     let mut group = Vec::new(alloc);
     for node in nodes {
-        if share_group(tree, answers, key, node.key) {
+        if share_group(draft, moved, key, node.key) {
             group.push(node.key)?;
         }
     }
@@ -146,50 +163,45 @@ fn group_of(
 }
 
 // Whether both are radio buttons of one group.
-fn share_group(tree: &Tree, answers: &[Answer], one: Key, other: Key) -> bool
-    requires { AreOwners tree.now.nodes answers.now }
-    ensures { result ≡ share_group tree.now.nodes one other }
+fn share_group(draft: &Draft<'_>, moved: &BTreeMap<u32, Option<Key>>, one: Key, other: Key) -> bool
+    requires { AreOwnedBy draft.now.nodes draft.now.page.tree.nodes moved.now }
+    ensures { result ≡ share_group draft.now.nodes one other }
 {
-    if !is_radio_at(tree, one) || !is_radio_at(tree, other) {
+    if !is_radio_at(draft, one) || !is_radio_at(draft, other) {
         return false;
     }
-    one.0 == other.0
-        || (same_owner(owner_of(tree, answers, one), owner_of(tree, answers, other))
-            && same_name(name_of(tree, one), name_of(tree, other)))
+    one.0 == other.0 || (has_owner_of(draft, moved, one, other) && has_name_of(draft, one, other))
 }
 
-fn is_radio_at(tree: &Tree, key: Key) -> bool
-    ensures { result ≡ passes is_radio tree.now.nodes key }
+fn is_radio_at(draft: &Draft<'_>, key: Key) -> bool
+    ensures { result ≡ passes is_radio draft.now.nodes key }
 {
-    match tree.node(key) {
+    match draft.node(key) {
         Some(node) => is_radio(node),
         None => false,
     }
 }
 
-fn owner_of(tree: &Tree, answers: &[Answer], key: Key) -> Option<Key>
-    requires { AreOwners tree.now.nodes answers.now }
-    ensures { result ≡ owner_of tree.now.nodes key }
+fn has_owner_of(draft: &Draft<'_>, moved: &BTreeMap<u32, Option<Key>>, one: Key, other: Key) -> bool
+    requires { AreOwnedBy draft.now.nodes draft.now.page.tree.nodes moved.now }
+    ensures { result ≡ same_owner (owner_of draft.now.nodes one) (owner_of draft.now.nodes other) }
 {
-    match tree.place(key) {
-        Some(place) => owner_at(answers, place),
-        None => None,
-    }
+    same_owner(
+        owner_of(draft.page(), moved, one),
+        owner_of(draft.page(), moved, other),
+    )
 }
 
-fn owner_at(answers: &[Answer], place: usize) -> Option<Key>
-    ensures { result ≡ option_and_then (λ answer. answer.owner) (slice_get answers.now place) }
+fn has_name_of(draft: &Draft<'_>, one: Key, other: Key) -> bool
+    ensures { result ≡ same_name (name_of draft.now.nodes one) (name_of draft.now.nodes other) }
 {
-    match answers.get(place) {
-        Some(answer) => answer.owner,
-        None => None,
-    }
+    same_name(name_of(draft, one), name_of(draft, other))
 }
 
-fn name_of(tree: &Tree, key: Key) -> &str
-    ensures { result.now ≡ name_of tree.now.nodes key }
+fn name_of<'b>(draft: &'b Draft<'_>, key: Key) -> &'b str
+    ensures { result.now ≡ name_of draft.now.nodes key }
 {
-    match tree.attr(key, "name") {
+    match draft.attr(key, "name") {
         Some(name) => name,
         None => "",
     }
@@ -209,32 +221,4 @@ fn same_name(one: &str, other: &str) -> bool
     ensures { result ≡ same_name one.now other.now }
 {
     !one.is_empty() && one == other
-}
-
-/// The inputs whose form owner in a tree is not that in the page, in the order of the tree.
-pub fn moved_inputs(
-    alloc: Global,
-    page: &Page,
-    tree: &Tree,
-    answers: &[Answer],
-) -> Result<Vec<Key>, AllocError>
-    requires { AreOwners tree.now.nodes answers.now }
-    ensures { IfOk result (λ moved. moved.items ≡ moved_inputs page.now.tree.nodes tree.now.nodes) }
-{
-    let nodes = tree.nodes();
-    let mut moved = Vec::new(alloc);
-    for node in nodes {
-        if is_moved_input(page, tree, answers, node) {
-            moved.push(node.key)?;
-        }
-    }
-    Ok(moved)
-}
-
-fn is_moved_input(page: &Page, tree: &Tree, answers: &[Answer], node: &Node) -> bool
-    requires { AreOwners tree.now.nodes answers.now }
-    ensures { result ≡ (is_input node.now && not (same_owner
-        (owner_of page.now.tree.nodes node.now.key) (owner_of tree.now.nodes node.now.key))) }
-{
-    is_input(node) && !same_owner(page.owner(node.key), owner_of(tree, answers, node.key))
 }

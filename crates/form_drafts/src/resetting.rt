@@ -10,13 +10,13 @@ ghost use Rattle.form_changes.specs.Values.{with_value};
 
 use crate::draft::Draft;
 use crate::elements::is_select_at;
-use crate::options::{options_of, settle};
+use crate::options::{options_so_far, settle};
 use crate::owned::is_owned_by;
 use crate::radios::take_radio;
 use crate::reset_states;
 use form_changes::{has_kept_value, is_textarea, sanitised};
 use form_page::Page;
-use form_tree::{Key, Node, Tag, Tree};
+use form_tree::{Key, Node, Tag};
 use std::alloc::{AllocError, Global};
 
 /// Each resettable element of a form reset, in tree order.
@@ -70,10 +70,10 @@ fn reset_one(alloc: Global, draft: &mut Draft<'_>, key: Key) -> Result<(), Alloc
     requires { AreLike draft.old.nodes draft.old.page.tree.nodes }
     ensures { OnOk result (draft.new ≡ record draft.old { nodes = with_reset draft.old.nodes key }) }
 {
-    if is_select_at(draft.tree(), key) {
+    if is_select_at(draft, key) {
         return reset_select(alloc, draft, key);
     }
-    if is_textarea_at(draft.tree(), key) {
+    if is_textarea_at(draft, key) {
         return reset_textarea(alloc, draft, key);
     }
     reset_input(alloc, draft, key)?;
@@ -81,10 +81,10 @@ fn reset_one(alloc: Global, draft: &mut Draft<'_>, key: Key) -> Result<(), Alloc
     sanitise(alloc, draft, key)
 }
 
-fn is_textarea_at(tree: &Tree, key: Key) -> bool
-    ensures { result ≡ passes is_textarea tree.now.nodes key }
+fn is_textarea_at(draft: &Draft<'_>, key: Key) -> bool
+    ensures { result ≡ passes is_textarea draft.now.nodes key }
 {
-    match tree.node(key) {
+    match draft.node(key) {
         Some(node) => is_textarea(node),
         None => false,
     }
@@ -95,7 +95,7 @@ fn reset_select(alloc: Global, draft: &mut Draft<'_>, select: Key) -> Result<(),
       nodes = with_selectedness (with_options_reset draft.old.nodes select) select;
     }) }
 {
-    let options = options_of(alloc, draft.tree(), select)?;
+    let options = options_so_far(alloc, draft, select)?;
     reset_options(draft, &options)?;
     settle(alloc, draft, select)
 }

@@ -1,9 +1,6 @@
 use Rattle.std.proofs.Common.{ap, ◌∙◌}
-use Rattle.std.specs.Option.{option_and_then, option_map, option_map_or}
-use Rattle.form_tree.specs.declared.node.Node.{Node}
-use Rattle.form_tree.specs.Tree.{Nodes, at_key, with_state}
-use Rattle.form_changes.specs.Changing.{with_kind}
-use Rattle.form_changes.specs.Counting.{value_moved}
+use Rattle.std.specs.Option.{option_map_or}
+use Rattle.form_tree.specs.Tree.{Nodes, with_state}
 use Rattle.form_drafts.specs.Drafts.{Draft}
 use Rattle.form_acts.proofs.ChangeLaws.{kind_step}
 use Rattle.form_acts.proofs.type_attribute.with_kind.Goals as goal
@@ -13,6 +10,4 @@ returns c =
     c.in_ok-done.ensures
     ∙ ap (λ (d : Draft). let x : Draft = record d { nodes = option_map_or (with_state d.nodes c.args.key) c.in_ok-state.state d.nodes } in x) c.in_ok-after.ensures
     ∙ ap (λ (ns : Nodes). let x : Draft = record c.args.draft { nodes = ns } in x)
-    (kind_step c.args.draft.nodes c.tree.ensures.tree c.args.key c.args.from c.args.to c.in_ok-moved.moved c.in_ok-state.state
-    (c.in_ok-moved.ensures ∙ ap (λ (ns : Nodes). option_and_then (value_moved c.args.from c.args.to) (at_key ns c.args.key)) c.tree-2.ensures.nodes)
-    (c.in_ok-state.ensures ∙ ap (λ (ns : Nodes). option_map (λ (n : Node). (with_kind c.args.from c.args.to n).state) (at_key ns c.args.key)) c.tree.ensures.nodes))
+    (kind_step c.args.draft.nodes c.page.ensures.tree c.args.key c.args.from c.args.to c.in_ok-moved.moved c.in_ok-state.state c.in_ok-moved.ensures c.in_ok-state.ensures)

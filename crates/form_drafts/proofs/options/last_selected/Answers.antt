@@ -7,5 +7,5 @@ use Rattle.form_drafts.proofs.options.last_selected.Goals as goal
 
 pub returns : goal.returns
 returns c =
-    sym (ap (latest (passes is_selected c.args.tree.now.nodes) c.loop-key.last) (drop_all c.loop-key.key-index c.args.options.now (omega (arith, c.loop-key-test.false))))
-    ∙ c.loop-key.invariant ∙ latest_last (passes is_selected c.args.tree.now.nodes) c.args.options.now
+    sym (ap (latest (passes is_selected c.args.draft.now.nodes) c.loop-key.last) (drop_all c.loop-key.key-index c.args.options.now (omega (arith, c.loop-key-test.false))))
+    ∙ c.loop-key.invariant ∙ latest_last (passes is_selected c.args.draft.now.nodes) c.args.options.now

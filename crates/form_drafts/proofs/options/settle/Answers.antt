@@ -1,25 +1,20 @@
-use Rattle.std.proofs.Common.{◌∙◌, ap, sym}
-use Rattle.form_tree.specs.Elements.{is_select, passes}
-use Rattle.form_tree.specs.Tree.{Nodes}
+use Rattle.std.proofs.Common.{◌∙◌, ap}
 use Rattle.form_drafts.specs.Drafts.{keys_but}
 use Rattle.form_drafts.proofs.OptionLaws.{are_read, draft_last, draft_many, draft_no_select, draft_none}
 use Rattle.form_drafts.proofs.options.settle.Goals as goal
 
-pub returns-then-is_multiple : goal.returns-then-is_multiple
-returns-then-is_multiple c = draft_many c.args.draft.now c.args.select c.tree.result.now.nodes c.tree.ensures.nodes c.if-is_multiple.ensures
+pub returns-then-is_multiple_so_far : goal.returns-then-is_multiple_so_far
+returns-then-is_multiple_so_far c = draft_many c.args.draft.now c.args.select c.if-is_multiple_so_far.ensures
 
 pub returns-then-not-is_select_at : goal.returns-then-not-is_select_at
-returns-then-not-is_select_at c = draft_no_select c.args.draft.now c.args.select c.tree-2.result.now.nodes c.tree-2.ensures.nodes c.if-not-is_select_at.ensures
+returns-then-not-is_select_at c = draft_no_select c.args.draft.now c.args.select c.if-not-is_select_at.ensures
 
 pub returns-in-Some : goal.returns-in-Some
 returns-in-Some c =
-    let read = are_read c.args.draft.now c.args.select c.in_ok-options.options.items c.deref.result.now c.last_selected-last.result c.tree.result.now.nodes c.tree-3.result.now.nodes c.tree-4.result.now.nodes c.tree.ensures.tree c.tree.ensures.nodes c.if-is_multiple.ensures c.tree-3.ensures.nodes c.in_ok-options.ensures c.tree-4.ensures.nodes c.deref.ensures.value c.last_selected-last.ensures in
+    let read = are_read c.args.draft.now c.args.select c.in_ok-options.options.items c.deref.result.now c.last_selected-last.result c.page.ensures.tree c.if-is_multiple_so_far.ensures c.in_ok-options.ensures c.deref.ensures.value c.last_selected-last.ensures in
     draft_last c.unselect_all.result c.args.draft.now c.unselect_all.new.draft c.args.select c.in_ok-options.options.items c.in_ok-others-in-Some.others.items c.deref-in-Some-2.result.now c.last_selected-last.result c.in-Some.last read c.in-Some.is (c.in_ok-others-in-Some.ensures ∙ ap (keys_but c.in-Some.last) c.deref-in-Some.ensures.value) c.deref-in-Some-2.ensures.value c.unselect_all.ensures
-
-pub settle_none-requires : goal.settle_none-requires
-settle_none-requires c = ap (λ (ns : Nodes). passes is_select ns c.args.select) (sym c.tree-2.ensures.nodes) ∙ sym c.if-not-is_select_at.ensures
 
 pub returns : goal.returns
 returns c =
-    let read = are_read c.args.draft.now c.args.select c.in_ok-options.options.items c.deref.result.now c.last_selected-last.result c.tree.result.now.nodes c.tree-3.result.now.nodes c.tree-4.result.now.nodes c.tree.ensures.tree c.tree.ensures.nodes c.if-is_multiple.ensures c.tree-3.ensures.nodes c.in_ok-options.ensures c.tree-4.ensures.nodes c.deref.ensures.value c.last_selected-last.ensures in
+    let read = are_read c.args.draft.now c.args.select c.in_ok-options.options.items c.deref.result.now c.last_selected-last.result c.page.ensures.tree c.if-is_multiple_so_far.ensures c.in_ok-options.ensures c.deref.ensures.value c.last_selected-last.ensures in
     draft_none c.settle_none.result c.args.draft.now c.settle_none.new.draft c.args.select c.in_ok-options.options.items c.deref-in-None.result.now c.last_selected-last.result read c.in-None.is c.deref-in-None.ensures.value c.settle_none.ensures

@@ -1,14 +1,8 @@
-use Rattle.std.proofs.Common.{ap, ◌∙◌}
-use Rattle.form_tree.specs.Elements.{is_select, passes}
-use Rattle.form_tree.specs.Tree.{Nodes}
 use Rattle.form_drafts.proofs.OptionLaws.{line_first, line_wide}
 use Rattle.form_drafts.proofs.options.settle_none.Goals as goal
 
-pub is_one_line-requires : goal.is_one_line-requires
-is_one_line-requires c = ap (λ (ns : Nodes). passes is_select ns c.args.select) c.tree.ensures.nodes ∙ c.requires
-
 pub returns-then-not-is_one_line : goal.returns-then-not-is_one_line
-returns-then-not-is_one_line c = line_wide c.args.draft.now c.args.select c.tree.result.now.nodes c.args.options.now c.tree.ensures.nodes c.if-not-is_one_line.ensures
+returns-then-not-is_one_line c = line_wide c.args.draft.now c.args.select c.args.options.now c.if-not-is_one_line.ensures
 
 pub returns : goal.returns
-returns c = line_first c.select_first.result c.args.draft.now c.select_first.new.draft c.args.select c.tree.result.now.nodes c.args.options.now c.tree.ensures.nodes c.if-not-is_one_line.ensures c.select_first.ensures
+returns c = line_first c.select_first.result c.args.draft.now c.select_first.new.draft c.args.select c.args.options.now c.if-not-is_one_line.ensures c.select_first.ensures

@@ -2,10 +2,10 @@ use Rattle.form_drafts.proofs.LikeLaws.{page_group, radio_done, radio_still}
 use Rattle.form_drafts.proofs.radios.take_radio.Goals as goal
 
 pub returns-then-not-is_checked_at : goal.returns-then-not-is_checked_at
-returns-then-not-is_checked_at c = radio_still c.args.draft.now c.args.key c.tree.result.now.nodes c.tree.ensures.nodes c.if-not-is_checked_at.ensures
+returns-then-not-is_checked_at c = radio_still c.args.draft.now c.args.key c.if-not-is_checked_at.ensures
 
 pub returns : goal.returns
 returns c =
-    radio_done c.uncheck_all.result c.args.draft.now c.uncheck_all.new.draft c.args.key c.tree.result.now.nodes c.members.result.now c.in_ok-others.others.items c.deref.result.now c.tree.ensures.nodes c.if-not-is_checked_at.ensures
-    (page_group c.args.draft.now c.args.key c.page.result.now c.members.result.now c.requires c.page.ensures c.members.ensures)
+    radio_done c.uncheck_all.result c.args.draft.now c.uncheck_all.new.draft c.args.key c.members.result.now c.in_ok-others.others.items c.deref.result.now c.if-not-is_checked_at.ensures
+    (page_group c.args.draft.now c.args.key c.page.result.now c.members.result.now c.requires c.page.ensures.framed c.page.ensures.page c.members.ensures)
     c.in_ok-others.ensures c.deref.ensures.value c.uncheck_all.ensures

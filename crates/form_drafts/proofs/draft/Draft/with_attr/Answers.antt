@@ -1,23 +1,14 @@
-use Rattle.std.proofs.Common.{ℕ, List, Option, refl, ap, ◌∙◌}
-use Rattle.std.specs.Option.{option_map}
-use Rattle.std.specs.String.{string_bytes}
-use Rattle.form_tree.specs.Attributes.{set_attr, with_attr}
-use Rattle.form_tree.specs.Tree.{Tree}
+use Rattle.std.proofs.Common.{refl}
+use Rattle.form_tree.specs.Attributes.{set_attr}
 use Rattle.form_page.specs.declared.edit.Edit.TheVariants.{Attr}
-use Rattle.form_drafts.proofs.DraftLaws.{none_from, none_made, one_more, placed, some_from}
-use Rattle.form_drafts.specs.Drafts.{draft_of}
+use Rattle.form_drafts.proofs.DraftLaws.{none_made}
+use Rattle.form_drafts.proofs.SoFarLaws.{made_by}
 use Rattle.form_drafts.proofs.draft.Draft.with_attr.Goals as goal
 
-pub returns-then-not-is_there : goal.returns-then-not-is_there
-returns-then-not-is_there c =
-    rw (← c.self.view_is) (none_made (draft_of c.self.inside.page.now c.self.inside.tree.nodes) c.args.key (set_attr c.args.name c.args.value) (none_from _ c.if-not-is_there.ensures))
+pub returns-in_default : goal.returns-in_default
+returns-in_default c = none_made c.args.self c.args.key (set_attr c.args.name c.args.value) c.in_default.ensures.node
 
-pub set_attr-requires : goal.set_attr-requires
-set_attr-requires c = placed c.self.inside.tree.nodes c.args.key (some_from _ c.if-not-is_there.ensures)
-
-pub invariant_of-result : goal.invariant_of-result
-invariant_of-result c =
-    one_more c.self.inside.page.now c.self.inside.tree.nodes c.set_attr.new.self.nodes c.self.inside.edits.items c.push.new.self.items (Attr c.args.key c.args.name c.args.value) c.args.key c.self.invariant c.in_ok-push.ensures.items
-    (ap (λ (t : Tree). t.nodes) c.in_ok-set_attr.ensures.ok
-    ∙ ap (λ (x : List ℕ). with_attr c.self.inside.tree.nodes c.args.key x (option_map string_bytes c.in_ok-copy.copy)) c.as_str.ensures
-    ∙ ap (λ (v : Option (List ℕ)). with_attr c.self.inside.tree.nodes c.args.key c.args.name v) c.in_ok-copy.ensures) refl refl (some_from _ c.if-not-is_there.ensures)
+pub change-requires : goal.change-requires
+change-requires c =
+    made_by c.args.self.nodes c.in-Some.ensures.tree c.args.key c.in-Some.node.now c.in-Some.ensures.node (set_attr c.args.name c.args.value) (λ n. refl) c.in_ok-next.next c.in_ok-next.ensures
+    (Attr c.args.key c.args.name c.args.value) refl refl (λ files. refl)

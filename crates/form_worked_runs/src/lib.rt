@@ -3,6 +3,16 @@
 #![tactic(auto)]
 
 #[cfg(test)]
+mod endings;
+#[cfg(test)]
+mod failing;
+#[cfg(test)]
+mod generated;
+#[cfg(test)]
+mod pieces;
+#[cfg(test)]
 mod rows;
 #[cfg(test)]
 mod setting;
+#[cfg(test)]
+mod uploads;

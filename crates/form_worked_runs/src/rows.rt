@@ -1,8 +1,60 @@
 // Pages and talks: each line of a talk that begins with `> ` is a command, and those behind it are its
 // reply.
-use crate::setting::{BASE, PLAIN, run_in, talks};
-use form_run::Status;
+use crate::setting::{BASE, talks};
 use std::test::Fail;
+
+/// A form as people meet it, filled in and sent.
+pub const JOIN: (&str, &str) = (
+    "<form action=\"/join\" method=\"post\">\n\
+        <p><label>Name <input name=\"n\" required maxlength=\"20\"></label></p>\n\
+        <p><label>Born <input type=\"date\" name=\"d\" min=\"1900-01-01\"></label></p>\n\
+        <p><select name=\"c\" required><option value=\"\">Choose</option><option>Oslo</option></select></p>\n\
+        <p><input type=\"radio\" name=\"p\" value=\"a\" checked> A <input type=\"radio\" name=\"p\" value=\"b\"> B</p>\n\
+        <p><input type=\"checkbox\" name=\"t\" required> Terms</p>\n\
+        <p><button name=\"go\" value=\"1\">Join</button></p>\n\
+        </form>",
+    "page 18\n\
+        > click @18\n\
+        stopped\n\
+        invalid @4 valueMissing\n\
+        invalid @9 valueMissing\n\
+        invalid @16 valueMissing\n\
+        ok\n\
+        > user @4 \"Ann Lee\"\n\
+        @4 value=\"Ann Lee\" checked=no candidate=yes flags=-\n\
+        ok\n\
+        > user @7 \"1990-02-03\"\n\
+        @7 value=\"1990-02-03\" checked=no candidate=yes flags=-\n\
+        ok\n\
+        > pick @11\n\
+        @9 value=\"Oslo\" checked=no candidate=yes flags=-\n\
+        @10 value=\"\" selected=no\n\
+        @11 value=\"Oslo\" selected=yes\n\
+        ok\n\
+        > check @14\n\
+        @13 value=\"a\" checked=no candidate=yes flags=-\n\
+        @14 value=\"b\" checked=yes candidate=yes flags=-\n\
+        ok\n\
+        > check @16\n\
+        @16 value=\"on\" checked=yes candidate=yes flags=-\n\
+        ok\n\
+        > click @18\n\
+        request POST https://example.com/join\n\
+        type application/x-www-form-urlencoded\n\
+        data 43\n\
+        n=Ann+Lee&d=1990-02-03&c=Oslo&p=b&t=on&go=1\n\
+        end\n\
+        ok\n",
+);
+
+/// An empty form that is sent.
+pub const EMPTY: (&str, &str) = (
+    "<form></form>",
+    "page 1\n\
+        > submit @1\n\
+        request GET https://example.com/a?#f\n\
+        ok\n",
+);
 
 const ROWS: [(&str, &str); 26] = [
     // a required text
@@ -20,57 +72,8 @@ const ROWS: [(&str, &str); 26] = [
             request GET https://example.com/s?q=a+b\n\
             ok\n",
     ),
-    // a form as people meet it
-    (
-        "<form action=\"/join\" method=\"post\">\n\
-            <p><label>Name <input name=\"n\" required maxlength=\"20\"></label></p>\n\
-            <p><label>Born <input type=\"date\" name=\"d\" min=\"1900-01-01\"></label></p>\n\
-            <p><select name=\"c\" required><option value=\"\">Choose</option><option>Oslo</option></select></p>\n\
-            <p><input type=\"radio\" name=\"p\" value=\"a\" checked> A <input type=\"radio\" name=\"p\" value=\"b\"> B</p>\n\
-            <p><input type=\"checkbox\" name=\"t\" required> Terms</p>\n\
-            <p><button name=\"go\" value=\"1\">Join</button></p>\n\
-            </form>",
-        "page 18\n\
-            > click @18\n\
-            stopped\n\
-            invalid @4 valueMissing\n\
-            invalid @9 valueMissing\n\
-            invalid @16 valueMissing\n\
-            ok\n\
-            > user @4 \"Ann Lee\"\n\
-            @4 value=\"Ann Lee\" checked=no candidate=yes flags=-\n\
-            ok\n\
-            > user @7 \"1990-02-03\"\n\
-            @7 value=\"1990-02-03\" checked=no candidate=yes flags=-\n\
-            ok\n\
-            > pick @11\n\
-            @9 value=\"Oslo\" checked=no candidate=yes flags=-\n\
-            @10 value=\"\" selected=no\n\
-            @11 value=\"Oslo\" selected=yes\n\
-            ok\n\
-            > check @14\n\
-            @13 value=\"a\" checked=no candidate=yes flags=-\n\
-            @14 value=\"b\" checked=yes candidate=yes flags=-\n\
-            ok\n\
-            > check @16\n\
-            @16 value=\"on\" checked=yes candidate=yes flags=-\n\
-            ok\n\
-            > click @18\n\
-            request POST https://example.com/join\n\
-            type application/x-www-form-urlencoded\n\
-            data 43\n\
-            n=Ann+Lee&d=1990-02-03&c=Oslo&p=b&t=on&go=1\n\
-            end\n\
-            ok\n",
-    ),
-    // an empty form
-    (
-        "<form></form>",
-        "page 1\n\
-            > submit @1\n\
-            request GET https://example.com/a?#f\n\
-            ok\n",
-    ),
+    JOIN,
+    EMPTY,
     // weeks, and a value that is normalised
     (
         "<input type=\"week\" value=\"2020-W53\"><input type=\"datetime-local\">",
@@ -400,7 +403,7 @@ const ROWS: [(&str, &str); 26] = [
             none clash\n\
             ok\n",
     ),
-    // plain text, also in two pieces
+    // plain text
     (
         "<form method=\"post\" enctype=\"text/plain\"><input name=\"a\" value=\"x y\"><input type=\"checkbox\" name=\"b\" checked></form>",
         "page 3\n\
@@ -449,42 +452,10 @@ const ROWS: [(&str, &str); 26] = [
     ),
 ];
 
-// An input and what is written of it, with the end.
-const ENDS: [(&str, &str, Status); 6] = [
-    (
-        "<form><input name=\"q",
-        "bad page lexical 6\n",
-        Status::Page,
-    ),
-    ("<form>", "bad page nesting 6\n", Status::Page),
-    ("<input type=\"EMAIL\">", "bad page email 0\n", Status::Page),
-    ("", "page 0\n", Status::Done),
-    (
-        "<p></p>\n%script\r\nshow @1\r",
-        "page 1\nrefused wrong-kind\n",
-        Status::Done,
-    ),
-    (
-        "<p></p>\n%script \n%script\njump",
-        "page 1\nrefused syntax\n",
-        Status::Done,
-    ),
-];
-
 #[test]
 fn rows(rt: HostRuntime) -> Result<(), Fail> {
     for (page, talk) in ROWS {
-        talks(&rt, rt.alloc(), page, talk)?;
-    }
-    Ok(())
-}
-
-#[test]
-fn ends(rt: HostRuntime) -> Result<(), Fail> {
-    for (input, text, end) in ENDS {
-        let (status, written) = run_in(rt.alloc(), BASE, input.as_bytes(), PLAIN)?;
-        assert_eq!(rt; written.as_slice(), text.as_bytes());
-        assert_eq!(rt; status, end);
+        talks(&rt, rt.alloc(), BASE, page, talk)?;
     }
     Ok(())
 }

@@ -23,8 +23,8 @@ const COUNTS: [(&str, &str); 10] = [
     ),
     ("--generate\n4", FOUR),
     (
-        "--generate\n5",
-        "controls 5\ncommands 50\nrefused 5\nchanges 37\ninvalid 3\n",
+        "--generate\n7",
+        "controls 7\ncommands 70\nrefused 7\nchanges 52\ninvalid 4\n",
     ),
     (
         "--generate\n8",

@@ -12,6 +12,7 @@ use crate::draft::Draft;
 use crate::elements::{is_disabled_optgroup, is_select_at, select_of};
 use crate::radios::others_of;
 use form_changes::with_selected;
+use form_select::{elements_behind, is_option_of};
 use form_text::parse_nonneg;
 use form_tree::{Key, Node, Tree};
 use std::alloc::{AllocError, Global};
@@ -155,7 +156,7 @@ pub fn options_so_far(alloc: Global, draft: &Draft<'_>, select: Key) -> Result<V
 fn options_of(alloc: Global, tree: &Tree, select: Key) -> Result<Vec<Key>, AllocError>
     ensures { IfOk result (λ keys. keys.items ≡ map (λ n. n.key) (options tree.now.nodes select)) }
 {
-    let nodes = tree.nodes();
+    let nodes = elements_behind(tree, select);
     let mut keys = Vec::new(alloc);
     for node in nodes {
         if is_option_of(tree, select, node.key) {
@@ -163,15 +164,6 @@ fn options_of(alloc: Global, tree: &Tree, select: Key) -> Result<Vec<Key>, Alloc
         }
     }
     Ok(keys)
-}
-
-fn is_option_of(tree: &Tree, select: Key, key: Key) -> bool
-    ensures { result ≡ is_option_of tree.now.nodes select key }
-{
-    match select_of(tree, key) {
-        Some(above) => select.0 == above.0,
-        None => false,
-    }
 }
 
 // The last of these options that is selected.

@@ -1,18 +1,13 @@
--- What stands below an element, by the places of parents.
-use Rattle.std.specs.Prelude.{ℕ, ◌+◌, nat_le, Bool, false, List, [], ◌∷◌, length, if◌then◌else◌, ◌&&◌}
-use Rattle.std.specs.Option.{option_and_then, option_map_or}
+-- The options of a select, one by one, and the bytes of entries.
+use Rattle.std.specs.Prelude.{ℕ, ◌+◌, Bool, List, [], ◌∷◌, length, if◌then◌else◌, ◌&&◌}
 use Rattle.form_tree.specs.declared.node.Key.{Key}
 use Rattle.form_tree.specs.declared.node.Node.{Node}
 use Rattle.form_tree.specs.Elements.{is_empty_text}
 use Rattle.form_tree.specs.Selects.{is_option_of}
-use Rattle.form_tree.specs.Tree.{Nodes, place_of}
+use Rattle.form_tree.specs.Tree.{Nodes}
 use Rattle.form_encode.specs.declared.entry.Entry.{Entry}
 use Rattle.form_page.specs.Page.{Page}
 use Rattle.form_entries.specs.EntryList.{capped, entries_length, is_sent, text_entry, value_text}
-
--- the element's parent stands at the place or behind it
-abbrev pub is_below : Nodes → ℕ → Node → Bool
-is_below ns place n = option_map_or (nat_le place) (option_and_then (place_of ns) n.parent) false
 
 -- an option of the select that is selected and not disabled
 abbrev pub is_sent_by : Nodes → Key → Node → Bool

@@ -1,3 +1,4 @@
+mod BehindLaws
 mod ChosenLaws
 pub mod Laws
 pub mod OptionLaws

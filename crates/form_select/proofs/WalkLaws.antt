@@ -130,10 +130,10 @@ module _ (ns : Nodes) (tree : IsTree ns) where
       trans a b c h g = omega (arith, h, g)
 
   -- an option's parent is the select, or a child of it
-  abbrev Way : Key → Option Key → Type 0
+  abbrev pub Way : Key → Option Key → Type 0
   Way s up = (up ≡ Some s) ⊎ ((g : Key) × (up ≡ Some g) × (parent_of ns g ≡ Some s))
 
-  way : (s k : Key) (n : Node) → at_key ns k ≡ Some n → is_option_of ns s k ≡ true → Way s n.parent
+  pub way : (s k : Key) (n : Node) → at_key ns k ≡ Some n → is_option_of ns s k ≡ true → Way s n.parent
   way s k n found is = go (passes is_option ns k) n.parent refl (rw (ap (option_and_then (λ (n : Node). n.parent)) found) at is)
     where
       same : (t : Key) → same_key s t ≡ true → Some t ≡ Some s

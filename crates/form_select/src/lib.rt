@@ -3,6 +3,7 @@
 //! Each call on a tree reads the nodes that stand directly behind the select: its descendants.
 #![tactic(auto)]
 
+mod behind;
 mod elements;
 mod options;
 mod selects;
@@ -10,7 +11,8 @@ mod settling;
 mod states;
 mod walk;
 
-pub use options::{option_disabled, option_value, select_of};
+pub use behind::elements_behind;
+pub use options::{is_option_of, option_disabled, option_value, select_of};
 pub use selects::{display_size, first_selected, missing, placeholder, select_value};
 pub use settling::{settle, settled};
 pub use states::settled_states;

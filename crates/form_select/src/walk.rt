@@ -1,5 +1,5 @@
 // The options of a select, place by place.
-ghost use Rattle.std.specs.Prelude.{◌≡◌, IfSome, ◌≤◌, ◌<◌, ◌+◌, true, false, nat_le, Some, None, []};
+ghost use Rattle.std.specs.Prelude.{◌≡◌, IfSome, ◌≤◌, ◌<◌, ◌+◌, true, false, nat_le, length, Some, None, []};
 ghost use Rattle.std.specs.Option.{option_and_then, option_map_or};
 ghost use Rattle.form_tree.specs.Elements.{is_option, is_select, passes};
 ghost use Rattle.form_tree.specs.Selects.{options};
@@ -35,11 +35,12 @@ pub fn descendants(tree: &Tree, select: Key) -> Span
     }
 }
 
-// The place behind the descendants of the select that stands at a place: the first that is no
-// descendant's, since these stand behind it without a gap.
-fn end_behind(tree: &Tree, select: Key, place: usize) -> usize
+/// The place behind the descendants of the select that stands at a place: the first that is no
+/// descendant's, since these stand behind it without a gap.
+pub fn end_behind(tree: &Tree, select: Key, place: usize) -> usize
     requires { place_of tree.now.nodes select ≡ Some place }
     ensures order { place + 1 ≤ result }
+    ensures within { result ≤ length tree.now.nodes }
     ensures end { options_from tree.now.nodes select result ≡ [] }
 {
     let count = tree.len();

@@ -1,28 +1,31 @@
 -- Up to the first submission that is decided by a file which does not tell its content, an input has one text.
-use Rattle.std.proofs.Common.{◌≡◌, ℕ, Bool, true, false, not, ◌&&◌, List, [], ◌∷◌, ◌++◌, Option, Result, Ok, Err, cond, length, refl, sym, ap, ◌∙◌, inl, inr, append_assoc, append-nil}
+use Rattle.std.proofs.Common.{◌≡◌, ℕ, Bool, true, false, not, ◌&&◌, List, [], ◌∷◌, ◌++◌, Option, Some, None, IfSome, Result, Ok, Err, cond, length, subst, refl, sym, ap, ◌∙◌, inl, inr, append_assoc, append-nil}
 use Rattle.std.specs.Prelude.{◌⊎◌, All, IsSome, is_some, nat_lt}
 use Rattle.std.specs.List.{list_any}
-use Rattle.std.proofs.lemmas.Bool.{or_parts}
+use Rattle.std.proofs.lemmas.Bool.{false≢true, or_parts}
 use Rattle.std.proofs.lemmas.List.Elements.{All-cons, All-nil}
 use Rattle.url.specs.Parts.{Parts}
+use Rattle.form_ports.proofs.Laws.{append_known-nil}
 use Rattle.form_ports.specs.Shelf.{told}
 use Rattle.form_tree.specs.declared.node.Raw.{Raw}
 use Rattle.form_encode.specs.declared.entry.Entry.{Entry}
 use Rattle.form_entries.specs.EntryList.{entries_length, entry_list, most_bytes}
 use Rattle.form_input.specs.Input.{command_lines}
+use Rattle.form_input.specs.Words.{PlainTask, Generated, Page}
 use Rattle.form_submit.specs.declared.route.Route.{Route}
 use Rattle.form_submit.specs.Outcome.{files_read}
 use Rattle.form_submit.specs.Route.{route_of}
 use Rattle.form_run.specs.declared.asked.Asked.{Asked}
 use Rattle.form_run.specs.declared.asked.Asked.TheVariants as asks
-use Rattle.form_run.specs.Fronts.{Begins, HasOneFront, is_open, known_lines, known_of}
+use Rattle.form_run.specs.Fronts.{Begins, HasKnownFront, HasOneFront, WroteKnown, is_open, known_lines, known_of}
 use Rattle.form_run.specs.Replies.{AreReplies}
 use Rattle.form_run.specs.Session.{Files, Session, after, asked_in, files_after, opened}
 use Rattle.form_run.specs.Taken.{page_in}
 use Rattle.form_replies.specs.PageLines.{page_line}
-use Rattle.form_run.specs.Transcript.{IsTranscript, WroteInput, WroteInputPart}
+use Rattle.form_run.specs.Transcript.{IsEnd, IsExpected, IsTranscript, WroteAll, WroteInput, WroteInputPart}
 use Rattle.form_run.specs.declared.status.Status.{Status}
 use Rattle.form_run.proofs.OneTranscript.{Decided, ReadTell, one_reply_to}
+use Rattle.form_run.proofs.Runs.{of_any, of_input}
 use Rattle.form_run.proofs.TranscriptLaws.{some_transcript}
 
 module _ (files : Files) where
@@ -159,3 +162,42 @@ part_known files base names input written now known wrote =
 pub whole_known : (files : Files) (base : Parts) (names : List (List ℕ)) (input : List ℕ) (status : Status) (written now : Option (List ℕ)) (known : HasOneFront files base names input)
     → (wrote : WroteInput files base names input status written now) → Begins wrote.text known.front
 whole_known files base names input status written now known wrote = known.begins wrote.text wrote.is
+
+-- a run's writing, from what it says of its end and of each ending
+pub known_written : (files new : Files) (base : Parts) (names : List (List ℕ)) (held left : Option (List ℕ)) (given taken : ℕ) (status : Status) (written now : Option (List ℕ))
+    → (IsEnd status ≡ true → WroteAll files new base names held left given taken status written now)
+    → IfSome held (λ input. WroteInputPart files base names input written now)
+    → IfSome held (λ input. WroteKnown files base names input status written now)
+known_written files new base names None left given taken status written now ended wrote = tt
+known_written files new base names (Some input) left given taken status written now ended wrote =
+    let known = known_front files base names input in
+    record {
+      known = known;
+      whole = λ e.
+          let all = ended e in
+          let same : all.input ≡ input = of_input (Some input) left given taken all.input (λ read. all.input ≡ read) all.gave all.at_end refl in
+          let P : List ℕ → Type 0 = λ read. IsExpected files base names read all.whole.text in
+          record { text = all.whole.text; is = known.begins all.whole.text (subst P same all.whole.is); bytes = all.whole.wrote };
+      part = record { text = wrote.part.front; is = part_known files base names input written now known wrote; bytes = wrote.part.bytes };
+    }
+
+pub page_known : (task : Option PlainTask) (base : Parts) (names : List (List ℕ)) (files : Files) (held : Option (List ℕ)) (status : Status) (written now : Option (List ℕ))
+    → task ≡ Some (Page base names) → IfSome held (λ input. WroteKnown files base names input status written now) → HasKnownFront task files held status written now
+page_known task base names files held status written now is wrote =
+    let P : Option PlainTask → Type 0 = λ t. HasKnownFront t files held status written now in
+    subst P (sym is) wrote
+
+-- a run that wrote nothing and did not come to its end
+pub nothing_known : (task : Option PlainTask) (files : Files) (held : Option (List ℕ)) (status : Status) (written : Option (List ℕ)) → IsEnd status ≡ false → HasKnownFront task files held status written written
+nothing_known None files held status written no = tt
+nothing_known (Some (Generated count)) files held status written no = tt
+nothing_known (Some (Page base names)) files held status written no =
+    of_any held (λ input. WroteKnown files base names input status written written) (λ input. record {
+      known = known_front files base names input;
+      whole = λ e. absurd (false≢true (sym no ∙ e));
+      part = record {
+        text = [];
+        is = inr (record { rest = (known_front files base names input).front; whole = refl });
+        bytes = append_known-nil written;
+      };
+    })

@@ -163,6 +163,10 @@ memory_complete (Some (Page base names)) files held left Read Write Rise status 
     memory_whole held files Read Write Rise status (λ input. IsWhole files base names input status left written now) is
 memory_complete (Some (Generated count)) files held left Read Write Rise status written now is = λ calm. inl is
 
+-- want of memory is no wrong usage
+pub memory_is_no_usage : {X : Type 0} → ends.Memory ≡ ends.Usage → X
+memory_is_no_usage e = absurd (cc e)
+
 -- a page's task is not a generated page's
 pub not_generated : (task : Option PlainTask) (base : Parts) (names : List (List ℕ)) (count : ℕ) → task ≡ Some (Page base names) → task ≡ Some (Generated count) → ⊥
 not_generated task base names count page generated = let both : Some (Page base names) ≡ Some (Generated count) = sym page ∙ generated in absurd (cc both)

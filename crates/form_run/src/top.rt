@@ -11,7 +11,7 @@ ghost use Rattle.form_run.specs.Replies.{session_after_all};
 ghost use Rattle.form_run.specs.Session.{Files, opened};
 ghost use Rattle.form_run.specs.Taken.{page_in};
 ghost use Rattle.form_run.specs.Ended.{AllTell, HasEnded, HasFilesUpTo, HasOneText, HasWritten, IsCompleteOf, IsPageOf, IsUnread, IsWhole};
-ghost use Rattle.form_run.specs.Fronts.{HasOneFront};
+ghost use Rattle.form_run.specs.Fronts.{HasKnownFront, HasOneFront};
 ghost use Rattle.form_run.specs.Endings.{NoneCame, SomeChanged, SomeFileRose};
 ghost use Rattle.form_run.specs.Transcript.{AreExpectedUpTo, IsEnd, IsSilent, IsUntouched, PageIs, WroteAll, WroteInputPart};
 
@@ -112,6 +112,11 @@ pub fn run<S: Source, K: Sink>(
     // Up to the first submission that is decided by the content of a file that does not tell it there is one, whatever
     // files tell; each such text begins with that.
     ensures front { (files : Files) (base : Parts) (names : List (List ℕ)) (input : List ℕ) → HasOneFront files base names input }
+
+    // Of the files that the run has: what it wrote begins with that front, or, where it did not come to its end, is the
+    // beginning of it.
+    ensures known { HasKnownFront (task_of (map string_bytes words.now)) (contents_of (λ b. content b) shelf.old.items)
+        (S.held source.old) result (K.written sink.old) (K.written sink.new) }
 
     // Whatever page is read, it is sound as it opens and after each command.
     ensures sound { (input : List ℕ) (raws : List Raw) (base : Parts) (names lines : List (List ℕ)) → page_in input ≡ Ok raws

@@ -3,9 +3,9 @@ use Rattle.std.specs.Prelude.{string_bytes}
 use Rattle.std.proofs.lemmas.List.{length-map}
 use Rattle.form_input.proofs.Laws.{generated-count, page-names}
 use Rattle.form_run.proofs.FilesLaws.{came_same}
-use Rattle.form_run.proofs.OneFront.{known_front}
+use Rattle.form_run.proofs.OneFront.{known_front, known_written, nothing_known, page_known}
 use Rattle.form_run.proofs.OneTranscript.{one_expected}
-use Rattle.form_run.proofs.Runs.{memory_complete, not_generated, task_nothing, task_untouched}
+use Rattle.form_run.proofs.Runs.{memory_complete, memory_is_no_usage, not_generated, task_nothing, task_untouched}
 use Rattle.form_run.proofs.SoundLaws.{run_sound}
 use Rattle.form_run.proofs.top.run.Goals as goal
 
@@ -28,7 +28,7 @@ pub returns-in-Err-Usage-clause-counts : goal.returns-in-Err-Usage-clause-counts
 returns-in-Err-Usage-clause-counts g c = came_same _
 
 pub returns-in-Err-Memory-clause-usage : goal.returns-in-Err-Memory-clause-usage
-returns-in-Err-Memory-clause-usage g c = λ e. absurd (cc e)
+returns-in-Err-Memory-clause-usage g c = memory_is_no_usage
 
 pub returns-in-Err-Memory-clause-complete : goal.returns-in-Err-Memory-clause-complete
 returns-in-Err-Memory-clause-complete g c = memory_complete _ _ _ _ _ _ _ _ _ _ refl
@@ -87,3 +87,14 @@ returns-in-Err-Usage-clause-front g c = known_front
 
 pub returns-in-Err-Memory-clause-front : goal.returns-in-Err-Memory-clause-front
 returns-in-Err-Memory-clause-front g c = known_front
+
+pub returns-in-Ok-Page-clause-known : goal.returns-in-Ok-Page-clause-known
+returns-in-Ok-Page-clause-known g c =
+    page_known _ c.in-Ok-Page.base (map string_bytes c.in-Ok-Page.names.items) _ _ _ _ _ (rw (c.in-Ok-Page.is, c.in-Ok-Page.field-0-is) at c.task_of.ensures.ok)
+    (known_written _ _ _ _ _ _ _ _ _ _ _ c.run_page.ensures.end c.run_page.ensures.part)
+
+pub returns-in-Err-Memory-clause-known : goal.returns-in-Err-Memory-clause-known
+returns-in-Err-Memory-clause-known g c = nothing_known _ _ _ _ _ refl
+
+pub returns-in-Err-Usage-clause-known : goal.returns-in-Err-Usage-clause-known
+returns-in-Err-Usage-clause-known g c = nothing_known _ _ _ _ _ refl

@@ -13,6 +13,3 @@ pub use local::{print_local, read_local};
 pub use month::{print_month, read_month};
 pub use time::{print_time, read_time};
 pub use week::{print_week, read_week, weeks_in};
-
-#[cfg(test)]
-mod tests;

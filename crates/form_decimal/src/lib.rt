@@ -28,6 +28,3 @@ pub use crate::halving::half_between;
 pub use crate::nearest::nearest_aligned;
 pub use crate::printing::print;
 pub use crate::reading::{read_lenient, read_valid};
-
-#[cfg(test)]
-mod tests;

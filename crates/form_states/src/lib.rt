@@ -21,8 +21,6 @@ ghost use Rattle.form_states.specs.Limits.{IsLimits};
 mod input_state;
 mod limits;
 mod states;
-#[cfg(test)]
-mod tests;
 mod text_state;
 mod whole;
 

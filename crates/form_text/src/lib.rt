@@ -9,8 +9,6 @@ mod front;
 mod integers;
 mod line_ends;
 mod sequence;
-#[cfg(test)]
-mod tests;
 mod text;
 mod utf16;
 mod whitespace;

@@ -20,6 +20,3 @@ pub use pairing::pairs;
 pub use plain_text::plain;
 pub use scanning::Scan;
 pub use url_encoding::urlencoded;
-
-#[cfg(test)]
-mod tests;

@@ -7,7 +7,5 @@
 
 mod group;
 mod groups;
-#[cfg(test)]
-mod tests;
 
 pub use groups::Groups;

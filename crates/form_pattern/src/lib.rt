@@ -28,6 +28,3 @@ mod tables;
 mod tokens;
 
 pub use crate::pattern::Pattern;
-
-#[cfg(test)]
-mod tests;

@@ -1,6 +1,6 @@
 -- The pieces of a printed body.
-use Rattle.std.proofs.Common.{◌≡◌, ℕ, zero, suc, ◌*◌, ◌<◌, ◌≤◌, List, [], ◌∷◌, ◌++◌, length, take, drop, refl, sym, ap, subst, ◌∙◌, arith, append_assoc, append-nil, length-append, take-append-drop}
-use Rattle.std.proofs.lemmas.List.{take_all, length-take-le, length-drop}
+use Rattle.std.proofs.Common.{◌≡◌, ℕ, zero, suc, ◌*◌, ◌<◌, List, [], ◌∷◌, ◌++◌, length, take, drop, refl, sym, ap, subst, ◌∙◌, arith, append_assoc, length-append, take-append-drop}
+use Rattle.std.proofs.lemmas.List.{length-take-le, length-drop}
 use Rattle.std.proofs.Math.Seq.{take-append_seam, drop-append_seam}
 use Rattle.std.specs.Int.{div_ceil}
 use Rattle.form_submit.specs.PrintedRequest.{data_lines, piece_size, pieces_of, printed_data}
@@ -8,17 +8,6 @@ use Rattle.form_submit.specs.PrintedRequest.{data_lines, piece_size, pieces_of, 
 pub printed_data-none : printed_data [] ≡ []
 unfolding printed_data pieces_of
 printed_data-none = refl
-
--- fewer bytes than two pieces are one piece
-pieces_of-one : (bytes : List ℕ) → 0 < length bytes → length bytes ≤ piece_size → pieces_of bytes ≡ bytes ∷ []
-unfolding pieces_of
-pieces_of-one bytes some fits =
-    let count : div_ceil (length bytes) piece_size ≡ 1 = omega (arith, some, fits) in
-    rw count (ap (λ b. b ∷ []) (take_all piece_size bytes fits))
-
-pub printed_data-one : (bytes : List ℕ) → 0 < length bytes → length bytes ≤ piece_size → printed_data bytes ≡ data_lines bytes
-unfolding printed_data
-printed_data-one bytes some fits = rw (pieces_of-one bytes some fits) (append-nil (data_lines bytes))
 
 -- a whole piece at the front is the first
 pieces_of-whole : (front more : List ℕ) → length front ≡ piece_size → pieces_of (front ++ more) ≡ front ∷ pieces_of more
@@ -50,3 +39,18 @@ printed_data-append (suc pieces) printed more size =
     ∙ ap (λ d. data_lines front ++ d) (printed_data-append pieces back more others)
     ∙ sym (append_assoc (data_lines front) (printed_data back) (printed_data more))
     ∙ ap (λ d. d ++ printed_data more) (sym (printed_data-whole front back first) ∙ ap printed_data (sym split))
+
+-- ---- one piece after the other
+
+-- the first piece of what is left, and then the others
+pieces_of-next : (bytes : List ℕ) → 0 < length bytes → pieces_of bytes ≡ take piece_size bytes ∷ pieces_of (drop piece_size bytes)
+unfolding pieces_of
+pieces_of-next bytes some =
+    let count : div_ceil (length bytes) piece_size ≡ suc (div_ceil (length (drop piece_size bytes)) piece_size) =
+    omega (arith, some, length-drop piece_size bytes) in
+    rw count refl
+
+pub printed_data-next : (bytes : List ℕ) → 0 < length bytes
+    → printed_data bytes ≡ data_lines (take piece_size bytes) ++ printed_data (drop piece_size bytes)
+unfolding printed_data
+printed_data-next bytes some = rw (pieces_of-next bytes some) refl

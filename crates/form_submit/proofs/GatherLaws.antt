@@ -1,14 +1,15 @@
 -- Bytes that are gathered in several calls.
-use Rattle.std.proofs.Common.{◌≡◌, ℕ, ◌+◌, ◌<◌, ◌≤◌, List, [], ◌∷◌, ◌++◌, length, refl, sym, ap, subst, ◌∙◌, arith, append_assoc, append-nil, length-append, codes, flat_map, take, drop}
-use Rattle.std.proofs.Common.{take-append-drop, get_or, Bor, eqb, true, false}
+use Rattle.std.proofs.Common.{◌≡◌, ℕ, ◌+◌, ◌<◌, List, [], ◌++◌, length, refl, sym, ap, subst, ◌∙◌, arith, append_assoc, append-nil, length-append, codes, flat_map, take, drop}
+use Rattle.std.proofs.Common.{take-append-drop, get_or, Bor}
 use Rattle.std.specs.Prelude.{Option}
 use Rattle.std.proofs.lemmas.List.{drop_more}
 use Rattle.std.specs.Io.KnownBytes.{append_known}
 use Rattle.form_ports.specs.Written.{WrotePart}
 use Rattle.form_ports.proofs.Laws.{append_known-nil, append_known-append, WrotePart-front, WrotePart-later}
-use Rattle.form_submit.specs.PrintedRequest.{data_lines, piece_size, printed_data, printed_body}
+use Rattle.form_submit.specs.PrintedRequest.{printed_data, printed_body}
+use Rattle.form_submit.specs.Room.{batch_pieces, batch_size}
 use Rattle.form_submit.specs.Sending.{Gathers, GathersPart}
-use Rattle.form_submit.proofs.BodyLaws.{printed_data-none, printed_data-one, printed_data-append}
+use Rattle.form_submit.proofs.BodyLaws.{printed_data-none, printed_data-append}
 use Rattle.std.proofs.Math.Seq.{take-add}
 
 -- what is written whole is written in part
@@ -34,28 +35,27 @@ pub Gathers-none : (written : Option (List ℕ)) (kept : List ℕ) → Gathers w
 Gathers-none written kept =
     let P : List ℕ → Type 0 = Gathers written written kept [] in subst P (append-nil kept) (Gathers-kept written kept [])
 
--- what is kept is a whole piece, and is printed
-pub Gathers-piece : (written now : Option (List ℕ)) (kept : List ℕ) → length kept ≡ piece_size → now ≡ append_known written (data_lines kept)
+-- what is kept is whole pieces, and is printed
+pub Gathers-batch : (written now : Option (List ℕ)) (kept : List ℕ) → length kept ≡ batch_size → now ≡ append_known written (printed_data kept)
     → Gathers written now kept [] []
-Gathers-piece written now kept size here = record {
+Gathers-batch written now kept size here = record {
   printed = kept;
-  pieces = 1;
+  pieces = batch_pieces;
   whole = refl;
-  size = omega (arith, size);
-  lines = here ∙ ap (append_known written) (sym (printed_data-one kept (omega (arith, size)) (omega (arith, size))));
+  size = size;
+  lines = here;
 }
 
--- a part of that piece
-pub GathersPart-piece : (written now : Option (List ℕ)) (kept : List ℕ) → length kept ≡ piece_size → WrotePart written now (data_lines kept)
+-- a part of these pieces
+pub GathersPart-batch : (written now : Option (List ℕ)) (kept : List ℕ) → length kept ≡ batch_size → WrotePart written now (printed_data kept)
     → GathersPart written now kept []
-GathersPart-piece written now kept size here = record {
+GathersPart-batch written now kept size here = record {
   printed = kept;
   rest = [];
-  pieces = 1;
+  pieces = batch_pieces;
   whole = refl;
-  size = omega (arith, size);
-  lines = let P : List ℕ → Type 0 = WrotePart written now in
-      subst P (sym (printed_data-one kept (omega (arith, size)) (omega (arith, size)))) here;
+  size = size;
+  lines = here;
 }
 
 -- what was gathered was printed in part
@@ -153,18 +153,6 @@ GathersPart-taken written mid now kept bytes between rest grown done count first
     (GathersPart-put written mid now kept (take done bytes) between (take count rest) grown first put second))
 
 -- ---- the end of a body
-
--- of nothing left nothing is printed
-pub printed_data-empty : (written : Option (List ℕ)) (rest : List ℕ) → eqb (length rest) 0 ≡ true → written ≡ append_known written (printed_data rest)
-printed_data-empty written [] none = append_known-nil written ∙ ap (append_known written) (sym printed_data-none)
-printed_data-empty written (b ∷ rest) none = absurd (grind (arith, none))
-
--- what is left and no whole piece is the last piece
-pub printed_data-last : (bytes rest : List ℕ) → bytes ≡ rest → eqb (length bytes) 0 ≡ false → length rest < piece_size → data_lines bytes ≡ printed_data rest
-printed_data-last [] rest same some fits = cc
-printed_data-last (b ∷ bytes) rest same some fits =
-    let size : length (b ∷ bytes) ≤ piece_size = omega (arith, ap (λ l. length l) same, fits) in
-    sym (printed_data-one (b ∷ bytes) (omega arith) size) ∙ ap printed_data same
 
 -- a body whose whole pieces were printed
 printed_body-split : (written now : Option (List ℕ)) (body left : List ℕ) (all : Gathers written now [] body left)

@@ -4,10 +4,10 @@ mod EntryLaws
 mod FileLaws
 mod GatherLaws
 mod InvalidLaws
+mod LinesLaws
 mod OutcomeLaws
 mod PartsLaws
 mod PieceLaws
 mod RequestLaws
-mod RoomLaws
 mod SendLaws
 pub mod Laws

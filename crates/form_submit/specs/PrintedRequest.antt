@@ -23,10 +23,6 @@ pieces_of body = first_chunks piece_size (div_ceil (length body) piece_size) bod
 abbrev pub data_lines : List ℕ → List ℕ
 data_lines bytes = codes "data " ++ (decimal (length bytes) ++ (codes "\n" ++ (bytes ++ codes "\n")))
 
--- what stands before the bytes of a whole piece
-abbrev pub piece_head : List ℕ
-piece_head = codes "data 1024\n"
-
 -- the pieces of a body, printed
 unfoldable pub printed_data : List ℕ → List ℕ
 printed_data body = flat_map data_lines (pieces_of body)

@@ -1,17 +1,19 @@
--- The room in which the bytes of a piece are kept.
-use Rattle.std.specs.Prelude.{◌≡◌, ℕ, ◌+◌, ◌≤◌, List, codes, drop, take}
-use Rattle.form_submit.specs.PrintedRequest.{piece_head, piece_size}
+-- How much of a body is kept before it is printed.
+use Rattle.std.specs.Prelude.{ℕ, ◌+◌, ◌*◌}
+use Rattle.form_submit.specs.PrintedRequest.{piece_size}
 
--- how many bytes stand before those of a whole piece
-abbrev pub head_size : ℕ
-head_size = 10
+-- how many pieces are printed at once
+abbrev pub batch_pieces : ℕ
+batch_pieces = 64
 
--- the first of the bytes that a room has between the two
-abbrev pub kept_in : ℕ → List ℕ → List ℕ
-kept_in kept room = take kept (drop head_size room)
+-- how many bytes these have
+abbrev pub batch_size : ℕ
+batch_size = batch_pieces * piece_size
 
--- so many bytes are kept, between what is printed before and behind a whole piece
-pub record IsRoom (kept : ℕ) (room : List ℕ) : Type 0 where
-  pub fits : kept ≤ piece_size
-  pub front : take head_size room ≡ piece_head
-  pub last : drop (head_size + piece_size) room ≡ codes "\n"
+-- how many bytes stand around those of a whole piece, where it is printed
+abbrev pub frame_size : ℕ
+frame_size = 11
+
+-- how many bytes these pieces have as they are printed
+abbrev pub lines_size : ℕ
+lines_size = batch_pieces * (piece_size + frame_size)

@@ -75,7 +75,7 @@ NumberCause (fault.Changed a b) content number size positions sink_rose before n
 
 -- ---- bytes that are gathered into pieces
 
--- behind the bytes that were kept came these; the whole pieces of all of them were printed, and the others are left
+-- behind the bytes that were kept came these; whole pieces at the front of all of them were printed, and the others are left
 pub record Gathers (written now : Option (List ℕ)) (kept bytes left : List ℕ) : Type 0 where
   pub printed : List ℕ
   pub pieces : ℕ

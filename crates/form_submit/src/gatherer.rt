@@ -3,37 +3,28 @@ ghost use Rattle.std.specs.Prelude.{◌≡◌, ◌≤◌, ◌<◌, ◌-◌, ◌+
 ghost use Rattle.std.specs.Io.KnownBytes.{append_known};
 ghost use Rattle.form_ports.specs.Ports.{Rose};
 ghost use Rattle.form_ports.specs.Written.{WrotePart};
-ghost use Rattle.form_submit.specs.PrintedRequest.{data_lines, piece_size, printed_data, printed_body};
-ghost use Rattle.form_submit.specs.Room.{IsRoom, kept_in};
+ghost use Rattle.form_submit.specs.PrintedRequest.{printed_data, printed_body};
+ghost use Rattle.form_submit.specs.Room.{batch_size};
 ghost use Rattle.form_submit.specs.Sending.{Gathers, GathersPart};
 
-use crate::parts::write_data;
+use crate::lines::{BATCH_SIZE, Lines};
 use form_ports::{Sink, WriteFault, write_all};
 use std::marker::Model;
 
-// How many bytes a printed piece has, but for the last one.
-const PIECE_SIZE: usize = 1_024;
-
-// How many bytes stand before those of such a piece, where it is printed.
-const HEAD_SIZE: usize = 10;
-
-// How many bytes a piece has as it is printed.
-const ROOM: usize = HEAD_SIZE + PIECE_SIZE + 1;
-
-/// The bytes of a body that are not printed yet. They stand in a room between what is printed before
-/// and behind a whole piece, so that such a piece is one write.
+/// The bytes of a body that are not printed yet, and room for their lines, so that they are one write.
 #[derive(Drop)]
 pub struct Gatherer {
-    room: [u8; ROOM],
+    room: [u8; BATCH_SIZE],
     kept: usize,
+    lines: Lines,
 }
 
 impl Model for Gatherer {
     ghost Value = { List ℕ };
 
-    ghost view = { λ g. kept_in g.kept g.room };
+    ghost view = { λ g. take g.kept g.room };
 
-    ghost invariant = { λ g. IsRoom g.kept g.room };
+    ghost invariant = { λ g. g.kept ≤ batch_size };
 }
 
 impl Gatherer {
@@ -41,25 +32,19 @@ impl Gatherer {
     pub fn new() -> Gatherer
         ensures { result ≡ [] }
     {
-        let mut room = [b'\n'; ROOM];
-        room[..HEAD_SIZE].copy_from_slice(b"data 1024\n");
-        Gatherer { room, kept: 0 }
+        Gatherer {
+            room: [0; BATCH_SIZE],
+            kept: 0,
+            lines: Lines::new(),
+        }
     }
 
     // The bytes that are kept.
     fn bytes(&self) -> &[u8]
         ensures bytes { result.now ≡ self.now }
-        ensures room { length self.now ≤ piece_size }
+        ensures room { length self.now ≤ batch_size }
     {
-        &self.room[HEAD_SIZE..HEAD_SIZE + self.kept]
-    }
-
-    // The lines of what is kept, which is a whole piece.
-    fn lines(&self) -> &[u8]
-        requires whole { length self.now ≡ piece_size }
-        ensures { result.now ≡ data_lines self.now }
-    {
-        &self.room
+        &self.room[..self.kept]
     }
 
     // Keeps none any more.
@@ -72,37 +57,49 @@ impl Gatherer {
     // Keeps as many of the bytes as there is room for, and says how many.
     fn put(&mut self, bytes: &[u8]) -> usize
         ensures kept { self.new ≡ self.old ++ take result bytes.now }
-        ensures count { result ≡ min (piece_size - length self.old) (length bytes.now) }
-        ensures room { length self.old ≤ piece_size }
+        ensures count { result ≡ min (batch_size - length self.old) (length bytes.now) }
+        ensures room { length self.old ≤ batch_size }
     {
-        let count = usize::min(PIECE_SIZE - self.kept, bytes.len());
-        let start = HEAD_SIZE + self.kept;
+        let count = usize::min(BATCH_SIZE - self.kept, bytes.len());
+        let start = self.kept;
         self.room[start..start + count].copy_from_slice(&bytes[..count]);
         self.kept += count;
         count
     }
 
-    // Prints what is kept where it is a whole piece.
+    // Prints what is kept, in one write, and keeps it.
+    fn print<K: Sink>(&mut self, sink: &mut K) -> Result<(), WriteFault>
+        ensures same { self.new ≡ self.old }
+        ensures whole { OnOk result (K.written sink.new ≡ append_known (K.written sink.old) (printed_data self.old)) }
+        ensures part { WrotePart (K.written sink.old) (K.written sink.new) (printed_data self.old) }
+        ensures fault { OnErr result (Rose (K.faults sink.old) (K.faults sink.new)) }
+        ensures later { K.faults sink.old ≤ K.faults sink.new }
+    {
+        self.lines.make_up(&self.room[..self.kept]);
+        write_all(sink, self.lines.bytes())
+    }
+
+    // Prints what is kept where there is no room for more.
     fn print_whole<K: Sink>(&mut self, sink: &mut K) -> Result<(), WriteFault>
         ensures gathers { OnOk result (Gathers (K.written sink.old) (K.written sink.new) self.old [] self.new) }
-        ensures room { OnOk result (length self.new < piece_size) }
+        ensures room { OnOk result (length self.new < batch_size) }
         ensures part { GathersPart (K.written sink.old) (K.written sink.new) self.old [] }
         ensures fault { OnErr result (Rose (K.faults sink.old) (K.faults sink.new)) }
         ensures later { K.faults sink.old ≤ K.faults sink.new }
     {
         let kept = self.bytes();
-        if kept.len() == PIECE_SIZE {
-            write_all(sink, self.lines())?;
+        if kept.len() == BATCH_SIZE {
+            self.print(sink)?;
             self.clear();
         }
         Ok(())
     }
 
-    /// Takes more bytes of the body, and prints each piece that is whole.
+    /// Takes more bytes of the body, and prints the pieces that are whole where there is no room for more.
     pub fn take<K: Sink>(&mut self, sink: &mut K, bytes: &[u8]) -> Result<(), WriteFault>
-        requires room { length self.old < piece_size }
+        requires room { length self.old < batch_size }
         ensures gathers { OnOk result (Gathers (K.written sink.old) (K.written sink.new) self.old bytes.now self.new) }
-        ensures room { OnOk result (length self.new < piece_size) }
+        ensures room { OnOk result (length self.new < batch_size) }
         ensures part { GathersPart (K.written sink.old) (K.written sink.new) self.old bytes.now }
         ensures fault { OnErr result (Rose (K.faults sink.old) (K.faults sink.new)) }
         ensures later { K.faults sink.old ≤ K.faults sink.new }
@@ -116,30 +113,14 @@ impl Gatherer {
         Ok(())
     }
 
-    // Prints what is left, which is no whole piece.
-    fn print_rest<K: Sink>(&self, sink: &mut K) -> Result<(), WriteFault>
-        requires room { length self.now < piece_size }
-        ensures whole { OnOk result (K.written sink.new ≡ append_known (K.written sink.old) (printed_data self.now)) }
-        ensures part { WrotePart (K.written sink.old) (K.written sink.new) (printed_data self.now) }
-        ensures fault { OnErr result (Rose (K.faults sink.old) (K.faults sink.new)) }
-        ensures later { K.faults sink.old ≤ K.faults sink.new }
-    {
-        let rest = self.bytes();
-        if rest.is_empty() {
-            return Ok(());
-        }
-        write_data(sink, rest)
-    }
-
     /// Prints what is left, and the end of the body.
-    pub fn finish<K: Sink>(&self, sink: &mut K) -> Result<(), WriteFault>
-        requires room { length self.now < piece_size }
-        ensures whole { OnOk result (K.written sink.new ≡ append_known (K.written sink.old) (printed_body self.now)) }
-        ensures part { WrotePart (K.written sink.old) (K.written sink.new) (printed_body self.now) }
+    pub fn finish<K: Sink>(&mut self, sink: &mut K) -> Result<(), WriteFault>
+        ensures whole { OnOk result (K.written sink.new ≡ append_known (K.written sink.old) (printed_body self.old)) }
+        ensures part { WrotePart (K.written sink.old) (K.written sink.new) (printed_body self.old) }
         ensures fault { OnErr result (Rose (K.faults sink.old) (K.faults sink.new)) }
         ensures later { K.faults sink.old ≤ K.faults sink.new }
     {
-        self.print_rest(sink)?;
+        self.print(sink)?;
         write_all(sink, b"end\n")
     }
 }

@@ -1,7 +1,7 @@
 //! The submission of a form, and how a request is written.
 //!
-//! A request is written piece by piece: the bytes of its body are gathered in a buffer of 1,024 bytes,
-//! so that neither a body nor a file is ever held whole.
+//! The bytes of a request's body are gathered in a buffer of 65,536 bytes and printed in pieces, 64 of
+//! them in one write, so that neither a body nor a file is ever held whole.
 //!
 //! The URL Standard and the writing of pairs are those of the crates `url` and `form_urlencoded`:
 //! the definitions cite their own.
@@ -13,6 +13,7 @@ mod direct;
 mod file;
 mod gatherer;
 mod invalid;
+mod lines;
 mod multipart;
 mod outcome;
 mod parts;

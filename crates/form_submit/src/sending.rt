@@ -33,7 +33,7 @@ fn write_post<K: Sink>(url: &[u8], kind: &[u8], sink: &mut K) -> Result<(), Writ
 }
 
 /// Writes a request in its printed form. It takes no memory and never holds a file: of the body at
-/// most 1,024 bytes are kept at a time. Each file that a piece names is rewound, read once more, and
+/// most 65,536 bytes are kept at a time. Each file that a piece names is rewound, read once more, and
 /// has to end after as many bytes as its piece says.
 ///
 /// Of a POST request the kind is there, and so is each file that a piece names; where a file tells its

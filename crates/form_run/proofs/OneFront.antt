@@ -189,12 +189,12 @@ page_known task base names files held status written now is wrote =
 
 -- a run that wrote nothing and did not come to its end
 pub nothing_known : (task : Option PlainTask) (files : Files) (held : Option (List ℕ)) (status : Status) (written : Option (List ℕ)) → IsEnd status ≡ false → HasKnownFront task files held status written written
-nothing_known None files held status written no = tt
-nothing_known (Some (Generated count)) files held status written no = tt
-nothing_known (Some (Page base names)) files held status written no =
+nothing_known None files held status written unended = tt
+nothing_known (Some (Generated count)) files held status written unended = tt
+nothing_known (Some (Page base names)) files held status written unended =
     of_any held (λ input. WroteKnown files base names input status written written) (λ input. record {
       known = known_front files base names input;
-      whole = λ e. absurd (false≢true (sym no ∙ e));
+      whole = λ e. absurd (false≢true (sym unended ∙ e));
       part = record {
         text = [];
         is = inr (record { rest = (known_front files base names input).front; whole = refl });

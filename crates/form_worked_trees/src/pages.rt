@@ -2,17 +2,30 @@
 ghost use Rattle.std.specs.Prelude.{◌≡◌};
 ghost use Rattle.form_tree.specs.Elements.{is_option, is_select, passes};
 
-use form_markup::read;
+use form_markup::{MOST_ELEMENTS, read};
 use form_tree::{Key, State, Tree};
 use std::alloc::Global;
-use std::process::Abort;
-use std::test::Fail;
 
-// The tree of a page, where the page is read.
-pub fn tree_of(rt: &impl Abort, alloc: Global, page: &str) -> Result<Tree, Fail> {
-    let raws = read(alloc, page)?;
-    assert!(rt; raws.len() <= 65_536);
-    Ok(Tree::from_raw(alloc, raws)?)
+// The tree that a page is read into; none where it is refused.
+pub fn tree_of(alloc: Global, page: &str) -> Option<Tree> {
+    let Ok(raws) = read(alloc, page) else {
+        return None;
+    };
+    if MOST_ELEMENTS < raws.len() {
+        return None;
+    }
+    match Tree::from_raw(alloc, raws) {
+        Ok(tree) => Some(tree),
+        Err(_) => None,
+    }
+}
+
+// The key of a number; of another text it is that of no element.
+pub fn key_of(number: &str) -> Key {
+    match number.parse::<u32>() {
+        Ok(number) => Key(number),
+        Err(_) => Key(0),
+    }
 }
 
 // The number of a key, and 0 where there is none.
@@ -23,12 +36,13 @@ pub fn number(key: Option<Key>) -> u32 {
     }
 }
 
-// Makes an option selected, or not.
-pub fn mark(tree: &mut Tree, rt: &impl Abort, alloc: Global, option: u32, selected: bool) {
-    assert!(rt; tree.place(Key(option)).is_some());
-    let mut state = State::empty(alloc);
-    state.selected = selected;
-    tree.set_state(Key(option), state);
+// Makes an option that is there selected.
+pub fn mark(tree: &mut Tree, alloc: Global, option: Key) {
+    if tree.place(option).is_some() {
+        let mut state = State::empty(alloc);
+        state.selected = true;
+        tree.set_state(option, state);
+    }
 }
 
 pub fn is_option(tree: &Tree, key: Key) -> bool

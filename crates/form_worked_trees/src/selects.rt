@@ -2,7 +2,7 @@
 ghost use Rattle.std.specs.Prelude.{◌≡◌, [], IfOk, vec_len};
 ghost use Rattle.form_tree.specs.Tree.{IsTreeOfRaws};
 
-use crate::pages::{is_option, is_select, mark, number, tree_of};
+use crate::pages::{is_option, is_select, key_of, mark, number, tree_of};
 use form_select::{
     display_size, missing, option_disabled, option_value, placeholder, select_of, settle, settled,
 };
@@ -11,154 +11,156 @@ use form_tree::{Key, Raw, Tag, Tree};
 use std::alloc::{AllocError, Global};
 use std::test::Fail;
 
-const LISTS: &str =
+// Of a page its options: each with the number of its select (0 where it has none), whether it is disabled,
+// and its value.
+const OPTIONS: &str = "3|1 disabled|a
+5|1 disabled|b
+6|1 enabled|c d
+7|1 enabled| x  y 
+8|1 enabled|A B
+9|1 enabled|
+11|0 enabled|f";
+
+const MANY: &str =
     "<select><optgroup disabled><option>a</option></optgroup><optgroup><option disabled>b</option><option> c  d </option></optgroup><option value=\" x  y \">e</option><option> A  B </option><option></option></select><datalist><option>f</option></datalist>";
 
-// An option of that page, the number of its select (0 where it has none), whether it is disabled,
-// and its value.
-const OPTIONS: [(u32, u32, bool, &str); 7] = [
-    (3, 1, true, "a"),
-    (5, 1, true, "b"),
-    (6, 1, false, "c d"),
-    (7, 1, false, " x  y "),
-    (8, 1, false, "A B"),
-    (9, 1, false, ""),
-    (11, 0, false, "f"),
-];
+// The number of an option's select, and whether the option is disabled.
+fn standing(alloc: Global, tree: &Tree, key: Key) -> Result<String, AllocError> {
+    if !is_option(tree, key) {
+        return String::from_str(alloc, "no option");
+    }
+    let select = number(select_of(tree, key));
+    let word = if option_disabled(tree, key) {
+        "disabled"
+    } else {
+        "enabled"
+    };
+    format!(in alloc; "{select} {word}")
+}
+
+fn value(alloc: Global, tree: &Tree, key: Key) -> Result<String, AllocError> {
+    if is_option(tree, key) {
+        option_value(alloc, tree, key)
+    } else {
+        String::from_str(alloc, "no option")
+    }
+}
+
+fn option(alloc: Global, tree: &Tree, key: Key) -> Result<String, AllocError> {
+    let standing = standing(alloc, tree, key)?;
+    let value = value(alloc, tree, key)?;
+    format!(in alloc; "{}|{}", standing.as_str(), value.as_str())
+}
+
+// The first option that does not hold, and what is answered; an empty text where all hold.
+fn first_wrong_option(alloc: Global, rows: &str) -> Result<String, AllocError> {
+    let Some(tree) = tree_of(alloc, MANY) else {
+        return String::from_str(alloc, "no page");
+    };
+    for row in rows.lines() {
+        let (key, want) = row.split_once('|').unwrap_or((row, ""));
+        let answer = option(alloc, &tree, key_of(key))?;
+        if answer.as_str() != want {
+            return format!(in alloc; "{row}: {}", answer.as_str());
+        }
+    }
+    Ok(String::new(alloc))
+}
 
 #[test]
 fn options_of_a_select_and_of_none(rt: HostRuntime) -> Result<(), Fail> {
-    let alloc = rt.alloc();
-    let tree = tree_of(&rt, alloc, LISTS)?;
-    for (key, select, disabled, value) in OPTIONS {
-        let option = Key(key);
-        assert!(rt; is_option(&tree, option));
-        assert_eq!(rt; number(select_of(&tree, option)), select);
-        assert_eq!(rt; option_disabled(&tree, option), disabled);
-        let got = option_value(alloc, &tree, option)?;
-        assert_eq!(rt; got.as_str(), value);
-    }
+    assert_eq!(rt; first_wrong_option(rt.alloc(), OPTIONS)?.as_str(), "");
     Ok(())
 }
 
-// The attributes of a select, and its display size.
-const SIZES: [(&str, u32); 11] = [
-    ("", 1),
-    ("multiple", 4),
-    ("size=\"x\"", 1),
-    ("size=\"x\" multiple", 4),
-    ("size=\"0\"", 0),
-    ("size=\"0\" multiple", 0),
-    ("size=\"1\" multiple", 1),
-    ("size=\"2\"", 2),
-    ("size=\"+3\"", 3),
-    ("size=\"-1\"", 1),
-    ("size=\"99999999999\"", 4_294_967_295),
-];
+// The rows below are questions on selects, each with what it is asked of and the answer; a semicolon and a
+// line feed stand between them. Here the attributes of a select, and its display size.
+const SIZES: &str = "size|||1;
+size|multiple||4;
+size|size=\"x\"||1;
+size|size=\"x\" multiple||4;
+size|size=\"0\"||0;
+size|size=\"0\" multiple||0;
+size|size=\"1\" multiple||1;
+size|size=\"2\"||2;
+size|size=\"+3\"||3;
+size|size=\"-1\"||1;
+size|size=\"99999999999\"||4294967295";
 
-#[test]
-fn sizes_of_a_select(rt: HostRuntime) -> Result<(), Fail> {
-    let alloc = rt.alloc();
-    for (attributes, size) in SIZES {
-        let page = format!(in alloc; "<select {}></select>", attributes)?;
-        let tree = tree_of(&rt, alloc, page.as_str())?;
-        assert!(rt; is_select(&tree, Key(1)));
-        assert_eq!(rt; display_size(&tree, Key(1)), size);
+// The attributes of a select, its first option (a second, `b`, stands behind it), and with no option, the
+// first and the second selected the number of its placeholder label option (0 where it has none) and
+// whether it is missing.
+const CHOICES: &str = "choice||<option value=\"\">a</option>|0 false, 0 false, 0 false;
+choice|required|<option value=\"\">a</option>|2 true, 2 true, 2 false;
+choice|required|<option>a</option>|0 true, 0 false, 0 false;
+choice|required|<option value=\"v\">a</option>|0 true, 0 false, 0 false;
+choice|required size=\"1\"|<option value=\"\">a</option>|2 true, 2 true, 2 false;
+choice|required size=\"2\"|<option value=\"\">a</option>|0 true, 0 false, 0 false;
+choice|required size=\"0\"|<option value=\"\">a</option>|0 true, 0 false, 0 false;
+choice|required size=\"1\" multiple|<option value=\"\">a</option>|0 true, 0 false, 0 false;
+choice|required|<option></option>|2 true, 2 true, 2 false;
+choice|required|<option> \n\t</option>|2 true, 2 true, 2 false;
+choice|required|<option> - </option>|0 true, 0 false, 0 false;
+choice|required disabled|<option value=\"\" disabled>a</option>|2 true, 2 true, 2 false";
+
+// The attributes of a select with the options 3 (in a disabled optgroup), 5 (disabled), 6 and 7, which of
+// them are selected, and those that stay so, each with a space behind it.
+const SETTLED: &str = "settled|||6 ;
+settled|size=\"1\"||6 ;
+settled|size=\"2\"||;
+settled|size=\"0\"||;
+settled|multiple||;
+settled||3|3 ;
+settled||3 6|6 ;
+settled|size=\"2\"|3 6 7|7 ;
+settled|multiple|3 7|3 7 ";
+
+// A display size, a list of options, and those that stay selected.
+const LISTS: &str = "settle|1|3:disabled 4:|4 ;
+settle|1|3:selected 4:disabled,selected 5:|4 ;
+settle|1 multiple|3:selected 4:disabled,selected 5:|3 4 ;
+settle|1|3:disabled|;
+settle|4|3:disabled|";
+
+// The tree of a page with these options selected.
+fn marked(alloc: Global, page: &str, options: &str) -> Option<Tree> {
+    let mut tree = tree_of(alloc, page)?;
+    for option in options.split(' ') {
+        mark(&mut tree, alloc, key_of(option));
     }
-    Ok(())
+    Some(tree)
 }
 
-// The attributes of a select, its first option (a second, `b`, stands behind it), the number of its
-// placeholder label option (0 where it has none), and whether the select is missing with no option,
-// the first and the second selected.
-const CHOICES: [(&str, &str, u32, [bool; 3]); 12] = [
-    (
-        "",
-        "<option value=\"\">a</option>",
-        0,
-        [false, false, false],
-    ),
-    (
-        "required",
-        "<option value=\"\">a</option>",
-        2,
-        [true, true, false],
-    ),
-    ("required", "<option>a</option>", 0, [true, false, false]),
-    (
-        "required",
-        "<option value=\"v\">a</option>",
-        0,
-        [true, false, false],
-    ),
-    (
-        "required size=\"1\"",
-        "<option value=\"\">a</option>",
-        2,
-        [true, true, false],
-    ),
-    (
-        "required size=\"2\"",
-        "<option value=\"\">a</option>",
-        0,
-        [true, false, false],
-    ),
-    (
-        "required size=\"0\"",
-        "<option value=\"\">a</option>",
-        0,
-        [true, false, false],
-    ),
-    (
-        "required size=\"1\" multiple",
-        "<option value=\"\">a</option>",
-        0,
-        [true, false, false],
-    ),
-    ("required", "<option></option>", 2, [true, true, false]),
-    ("required", "<option> \n\t</option>", 2, [true, true, false]),
-    ("required", "<option> - </option>", 0, [true, false, false]),
-    (
-        "required disabled",
-        "<option value=\"\" disabled>a</option>",
-        2,
-        [true, true, false],
-    ),
-];
-
-#[test]
-fn placeholders_and_what_is_missing(rt: HostRuntime) -> Result<(), Fail> {
-    let alloc = rt.alloc();
-    for (attributes, first, found, lacking) in CHOICES {
-        let page = format!(in alloc;
-            "<select {}>{}<option>b</option></select>",
-            attributes, first
-        )?;
-        let mut tree = tree_of(&rt, alloc, page.as_str())?;
-        for selected in 0..3 {
-            mark(&mut tree, &rt, alloc, 2, selected == 1);
-            mark(&mut tree, &rt, alloc, 3, selected == 2);
-            assert!(rt; is_select(&tree, Key(1)));
-            assert_eq!(rt; number(placeholder(&tree, Key(1))), found);
-            assert_eq!(rt; missing(&tree, Key(1)), lacking[selected]);
+fn size(alloc: Global, attributes: &str) -> Result<String, AllocError> {
+    let page = format!(in alloc; "<select {attributes}></select>")?;
+    match tree_of(alloc, page.as_str()) {
+        Some(tree) if is_select(&tree, Key(1)) => {
+            format!(in alloc; "{}", display_size(&tree, Key(1)))
         }
+        _ => String::from_str(alloc, "no select"),
     }
-    Ok(())
 }
 
-#[test]
-fn a_nested_option_is_no_placeholder(rt: HostRuntime) -> Result<(), Fail> {
-    let alloc = rt.alloc();
-    let page = "<select required><optgroup><option value=\"\">a</option></optgroup></select>";
-    let mut tree = tree_of(&rt, alloc, page)?;
-    mark(&mut tree, &rt, alloc, 3, true);
-    assert!(rt; is_select(&tree, Key(1)));
-    assert_eq!(rt; number(placeholder(&tree, Key(1))), 0);
-    assert!(rt; !missing(&tree, Key(1)));
-    Ok(())
+// A select's placeholder label option, and whether the select is missing.
+fn choice(alloc: Global, page: &str, select: Key, selected: &str) -> Result<String, AllocError> {
+    match marked(alloc, page, selected) {
+        Some(tree) if is_select(&tree, select) => {
+            let placeholder = number(placeholder(&tree, select));
+            format!(in alloc; "{placeholder} {}", missing(&tree, select))
+        }
+        _ => String::from_str(alloc, "no select"),
+    }
 }
 
-// The settled options as their key numbers, each with a space behind it.
+fn choices(alloc: Global, attributes: &str, first: &str) -> Result<String, AllocError> {
+    let page = format!(in alloc; "<select {attributes}>{first}<option>b</option></select>")?;
+    let page = page.as_str();
+    let none = choice(alloc, page, Key(1), "")?;
+    let one = choice(alloc, page, Key(1), "2")?;
+    let other = choice(alloc, page, Key(1), "3")?;
+    format!(in alloc; "{}, {}, {}", none.as_str(), one.as_str(), other.as_str())
+}
+
 fn shown(alloc: Global, keys: &[Key]) -> Result<String, AllocError> {
     let mut text = String::new(alloc);
     for key in keys {
@@ -167,38 +169,79 @@ fn shown(alloc: Global, keys: &[Key]) -> Result<String, AllocError> {
     Ok(text)
 }
 
-// The attributes of a select with the options 3 (in a disabled optgroup), 5 (disabled), 6 and 7,
-// which of 3, 6 and 7 are selected, and those that stay so.
-const SELECTED: [(&str, [bool; 3], &str); 9] = [
-    ("", [false, false, false], "6 "),
-    ("size=\"1\"", [false, false, false], "6 "),
-    ("size=\"2\"", [false, false, false], ""),
-    ("size=\"0\"", [false, false, false], ""),
-    ("multiple", [false, false, false], ""),
-    ("", [true, false, false], "3 "),
-    ("", [true, true, false], "6 "),
-    ("size=\"2\"", [true, true, true], "7 "),
-    ("multiple", [true, false, true], "3 7 "),
-];
+// The options of a select that stay selected.
+fn left(alloc: Global, page: &str, select: Key, selected: &str) -> Result<String, AllocError> {
+    match marked(alloc, page, selected) {
+        Some(tree) if is_select(&tree, select) => shown(alloc, &settled(alloc, &tree, select)?),
+        _ => String::from_str(alloc, "no select"),
+    }
+}
+
+fn left_of_four(alloc: Global, attributes: &str, selected: &str) -> Result<String, AllocError> {
+    let page = format!(in alloc;
+        "<select {attributes}><optgroup disabled><option>a</option></optgroup><optgroup><option disabled>b</option><option>c</option></optgroup><option>e</option></select>"
+    )?;
+    left(alloc, page.as_str(), Key(1), selected)
+}
+
+fn left_of_list(alloc: Global, size: &str, list: &str) -> Result<String, AllocError> {
+    let (size, multiple) = match size.split_once(' ') {
+        Some((size, _)) => (size, true),
+        None => (size, false),
+    };
+    let mut options = Vec::new(alloc);
+    for option in list.split(' ') {
+        let (key, marks) = option.split_once(':').unwrap_or((option, ""));
+        options.push((
+            key_of(key),
+            marks.contains("disabled"),
+            marks.contains("selected"),
+        ))?;
+    }
+    shown(
+        alloc,
+        &settle(alloc, multiple, size.parse::<u32>().unwrap_or(0), &options)?,
+    )
+}
+
+fn answer(
+    alloc: Global,
+    question: &str,
+    attributes: &str,
+    rest: &str,
+) -> Result<String, AllocError> {
+    match question {
+        "size" => size(alloc, attributes),
+        "choice" => choices(alloc, attributes, rest),
+        "settled" => left_of_four(alloc, attributes, rest),
+        "settle" => left_of_list(alloc, attributes, rest),
+        _ => String::from_str(alloc, "no question"),
+    }
+}
+
+// The first row that does not hold, and what is answered; an empty text where all hold.
+fn first_wrong(alloc: Global, rows: &str) -> Result<String, AllocError> {
+    for row in rows.split(";\n") {
+        let (question, rest) = row.split_once('|').unwrap_or((row, ""));
+        let (attributes, rest) = rest.split_once('|').unwrap_or((rest, ""));
+        let (rest, want) = rest.split_once('|').unwrap_or((rest, ""));
+        let answer = answer(alloc, question, attributes, rest)?;
+        if answer.as_str() != want {
+            return format!(in alloc; "{row}: {}", answer.as_str());
+        }
+    }
+    Ok(String::new(alloc))
+}
 
 #[test]
-fn what_stays_selected(rt: HostRuntime) -> Result<(), Fail> {
-    let alloc = rt.alloc();
-    for (attributes, selected, left) in SELECTED {
-        let page = format!(in alloc;
-            "<select {}><optgroup disabled><option>a</option></optgroup><optgroup><option disabled>b</option><option>c</option></optgroup><option>e</option></select>",
-            attributes
-        )?;
-        let mut tree = tree_of(&rt, alloc, page.as_str())?;
-        mark(&mut tree, &rt, alloc, 3, selected[0]);
-        mark(&mut tree, &rt, alloc, 6, selected[1]);
-        mark(&mut tree, &rt, alloc, 7, selected[2]);
-        assert!(rt; is_select(&tree, Key(1)));
-        let keys = settled(alloc, &tree, Key(1))?;
-        assert_eq!(rt; shown(alloc, &keys)?.as_str(), left);
+fn questions_on_selects(rt: HostRuntime) -> Result<(), Fail> {
+    for rows in [SIZES, CHOICES, SETTLED, LISTS] {
+        assert_eq!(rt; first_wrong(rt.alloc(), rows)?.as_str(), "");
     }
     Ok(())
 }
+
+const NESTED: &str = "<select required><optgroup><option value=\"\">a</option></optgroup></select>";
 
 const JOIN: &str = "<form action=\"/join\" method=\"post\">
 <p><label>Name <input name=\"n\" required maxlength=\"20\"></label></p>
@@ -209,52 +252,33 @@ const JOIN: &str = "<form action=\"/join\" method=\"post\">
 <p><button name=\"go\" value=\"1\">Join</button></p>
 </form>";
 
-#[test]
-fn the_select_of_a_form_that_people_fill_in(rt: HostRuntime) -> Result<(), Fail> {
-    let alloc = rt.alloc();
-    let mut tree = tree_of(&rt, alloc, JOIN)?;
-    assert_eq!(rt; tree.len(), 18);
-    assert!(rt; is_select(&tree, Key(9)));
-    assert_eq!(rt;
-        shown(alloc, &settled(alloc, &tree, Key(9))?)?.as_str(),
-        "10 "
-    );
-    assert_eq!(rt; number(placeholder(&tree, Key(9))), 10);
-    mark(&mut tree, &rt, alloc, 10, true);
-    assert!(rt; is_select(&tree, Key(9)));
-    assert!(rt; missing(&tree, Key(9)));
-    Ok(())
+fn count(alloc: Global, page: &str) -> usize {
+    match tree_of(alloc, page) {
+        Some(tree) => tree.len(),
+        None => 0,
+    }
+}
+
+// What is said of the two pages: a nested option is no placeholder, and the first option of a form that
+// people fill in is one.
+fn said_of_pages(alloc: Global) -> Result<String, AllocError> {
+    let nested = choice(alloc, NESTED, Key(1), "3")?;
+    let count = count(alloc, JOIN);
+    let left = left(alloc, JOIN, Key(9), "")?;
+    let first = choice(alloc, JOIN, Key(9), "10")?;
+    format!(in alloc;
+        "{}; {count}; {}; {}",
+        nested.as_str(),
+        left.as_str(),
+        first.as_str()
+    )
 }
 
 #[test]
-fn what_stays_selected_in_a_list(rt: HostRuntime) -> Result<(), Fail> {
-    let alloc = rt.alloc();
-    let options = [(Key(3), true, false), (Key(4), false, false)];
+fn placeholders_of_pages(rt: HostRuntime) -> Result<(), Fail> {
     assert_eq!(rt;
-        shown(alloc, &settle(alloc, false, 1, &options)?)?.as_str(),
-        "4 "
-    );
-    let options = [
-        (Key(3), false, true),
-        (Key(4), true, true),
-        (Key(5), false, false),
-    ];
-    assert_eq!(rt;
-        shown(alloc, &settle(alloc, false, 1, &options)?)?.as_str(),
-        "4 "
-    );
-    assert_eq!(rt;
-        shown(alloc, &settle(alloc, true, 1, &options)?)?.as_str(),
-        "3 4 "
-    );
-    let options = [(Key(3), true, false)];
-    assert_eq!(rt;
-        shown(alloc, &settle(alloc, false, 1, &options)?)?.as_str(),
-        ""
-    );
-    assert_eq!(rt;
-        shown(alloc, &settle(alloc, false, 4, &options)?)?.as_str(),
-        ""
+        said_of_pages(rt.alloc())?.as_str(),
+        "0 false; 18; 10 ; 10 true"
     );
     Ok(())
 }
@@ -282,17 +306,19 @@ fn lone_group(alloc: Global) -> Result<Vec<Raw>, AllocError>
     Ok(raws)
 }
 
+// The option's select and whether it is disabled, before its optgroup is disabled and behind that.
+fn lone_option(alloc: Global) -> Result<String, AllocError> {
+    let mut tree = Tree::from_raw(alloc, lone_group(alloc)?)?;
+    let before = standing(alloc, &tree, Key(2))?;
+    if tree.place(Key(1)).is_some() {
+        tree.set_attr(Key(1), "disabled", Some(String::new(alloc)))?;
+    }
+    let behind = standing(alloc, &tree, Key(2))?;
+    format!(in alloc; "{}, {}", before.as_str(), behind.as_str())
+}
+
 #[test]
 fn an_option_without_a_select(rt: HostRuntime) -> Result<(), Fail> {
-    let alloc = rt.alloc();
-    let mut tree = Tree::from_raw(alloc, lone_group(alloc)?)?;
-    assert!(rt; is_option(&tree, Key(2)));
-    assert_eq!(rt; select_of(&tree, Key(2)), None);
-    assert!(rt; !option_disabled(&tree, Key(2)));
-    assert!(rt; tree.place(Key(1)).is_some());
-    tree.set_attr(Key(1), "disabled", Some(String::new(alloc)))?;
-    assert!(rt; is_option(&tree, Key(2)));
-    assert_eq!(rt; select_of(&tree, Key(2)), None);
-    assert!(rt; option_disabled(&tree, Key(2)));
+    assert_eq!(rt; lone_option(rt.alloc())?.as_str(), "0 enabled, 0 disabled");
     Ok(())
 }

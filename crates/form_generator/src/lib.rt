@@ -5,13 +5,11 @@
 //! controls take turns. What [`print_counts`] writes is `counts_text` of the counts.
 //!
 //! Want of memory is the one free answer: a body that always gives it meets the contracts too. The
-//! tests show that with ample memory it is not given.
+//! tests of `form_worked_streams` show that with ample memory it is not given.
 #![tactic(auto)]
 
 mod counts;
 mod generator;
-#[cfg(test)]
-mod tests;
 
 pub use counts::{Counts, print_counts};
 pub use generator::{Control, Generated, generate};

@@ -5,14 +5,12 @@
 //! `%script`; [`first_line`] takes one line from a text, and [`without_cr`] is what that line says.
 //!
 //! Want of memory is the one free answer: bodies of `task_of` and `read_all` that always give it meet
-//! their contracts too. The tests show that with ample memory it is not given.
+//! their contracts too. The tests of `form_worked_streams` show that with ample memory it is not given.
 #![tactic(auto)]
 
 mod input;
 mod lines;
 mod moves;
-#[cfg(test)]
-mod tests;
 mod words;
 
 pub use input::split_script;

@@ -4,7 +4,7 @@
 //! The objects in memory tell everything, and the whole answer of each of their calls is proved.
 //! The real ones tell no bytes: they are the trusted edge, a few lines each. So a body of
 //! `StdSource::read` that always answers the end meets its contract too; the stored run of the
-//! program and a test of `StdSink` show that they move bytes.
+//! program and a test of `StdSink` in `form_worked_streams` show that they move bytes.
 //!
 //! Files stand on a shelf: a list whose first place has the number 1. What is said of a shelf holds in
 //! every ending: each file stays in its place with the content that it told, no count of faults falls,
@@ -18,8 +18,6 @@ mod ports;
 mod reading;
 mod real;
 mod shift_blob;
-#[cfg(test)]
-mod tests;
 mod writing;
 
 pub use lazy_file::LazyFile;

@@ -1,71 +1,59 @@
 // Which inputs are pages, and where their scripts begin.
 use crate::setting::run_over;
-use form_run::Status;
+use std::alloc::{AllocError, Global};
 use std::test::Fail;
 
-// An input, what is written of it, and the end.
-const PAGES: [(&[u8], &str, Status); 14] = [
-    (
-        b"<form><input name=\"q",
-        "bad page lexical 6\n",
-        Status::Page,
-    ),
-    (b"<form>", "bad page nesting 6\n", Status::Page),
-    (
-        b"<input type=\"EMAIL\">",
-        "bad page email 0\n",
-        Status::Page,
-    ),
-    (
-        b"<p><video></video><dialog></dialog></p>",
-        "bad page element 18\n",
-        Status::Page,
-    ),
-    (b"a\xff", "bad page utf8 1\n", Status::Page),
-    // the whole input is UTF-8, or it is no page
-    (
-        b"<form></form>\n%script\nshow @1\n\xc3",
-        "bad page utf8 30\n",
-        Status::Page,
-    ),
-    // a page that is refused has no replies
-    (
-        b"<form>\n%script\nshow @1\n",
-        "bad page nesting 7\n",
-        Status::Page,
-    ),
-    // places are counted after line ends are made one
-    (b"\r\n\r<form>", "bad page nesting 8\n", Status::Page),
-    (b"", "page 0\n", Status::Done),
-    (b"%script", "page 0\n", Status::Done),
-    (
-        b"<p></p>\n%script\r\nshow @1\r",
-        "page 1\nrefused wrong-kind\n",
-        Status::Done,
-    ),
-    (
-        b"<p></p>\n%script \n%script\njump",
-        "page 1\nrefused syntax\n",
-        Status::Done,
-    ),
-    (
-        b"<p></p>\n%script\n%script\n",
-        "page 1\nrefused syntax\n",
-        Status::Done,
-    ),
-    (
-        b"<p></p>\n%script\n\n\r\n#\r\n# show @1",
-        "page 1\n",
-        Status::Done,
-    ),
-];
+// The end of a run, what is written, and the input, of which each character stands for the byte of its
+// number; a semicolon and a line feed stand between two rows. Here inputs whose pages are refused: the whole
+// input is UTF-8, or it is no page; a page that is refused has no replies; places are counted after line
+// ends are made one.
+const REFUSED: &str = "Page|bad page lexical 6\n|<form><input name=\"q;
+Page|bad page nesting 6\n|<form>;
+Page|bad page email 0\n|<input type=\"EMAIL\">;
+Page|bad page element 18\n|<p><video></video><dialog></dialog></p>;
+Page|bad page utf8 1\n|a\u{ff};
+Page|bad page utf8 30\n|<form></form>\n%script\nshow @1\n\u{c3};
+Page|bad page nesting 7\n|<form>\n%script\nshow @1\n;
+Page|bad page nesting 8\n|\r\n\r<form>";
+
+// Inputs that are pages, with scripts and without.
+const PAGES: &str = "Done|page 0\n|;
+Done|page 0\n|%script;
+Done|page 1\nrefused wrong-kind\n|<p></p>\n%script\r\nshow @1\r;
+Done|page 1\nrefused syntax\n|<p></p>\n%script \n%script\njump;
+Done|page 1\nrefused syntax\n|<p></p>\n%script\n%script\n;
+Done|page 1\n|<p></p>\n%script\n\n\r\n#\r\n# show @1";
+
+fn bytes_of(alloc: Global, text: &str) -> Result<Vec<u8>, AllocError> {
+    let mut bytes = Vec::new(alloc);
+    for c in text.chars() {
+        bytes.push(u8::try_from(c as u32).unwrap_or(b'?'))?;
+    }
+    Ok(bytes)
+}
+
+// The end of a run over an input, and what is written.
+fn answer(alloc: Global, input: &str) -> Result<String, AllocError> {
+    let (status, written) = run_over(alloc, &bytes_of(alloc, input)?)?;
+    format!(in alloc; "{status:?}|{}", written.as_str())
+}
+
+// The first row that does not hold, and what is answered; an empty text where all hold.
+fn first_wrong(alloc: Global, rows: &str) -> Result<String, AllocError> {
+    for row in rows.split(";\n") {
+        let (want, input) = row.rsplit_once('|').unwrap_or(("no input", row));
+        let answer = answer(alloc, input)?;
+        if answer.as_str() != want {
+            return format!(in alloc; "{row}: {}", answer.as_str());
+        }
+    }
+    Ok(String::new(alloc))
+}
 
 #[test]
 fn pages(rt: HostRuntime) -> Result<(), Fail> {
-    for (input, text, end) in PAGES {
-        let (status, written) = run_over(rt.alloc(), input)?;
-        assert_eq!(rt; written.as_slice(), text.as_bytes());
-        assert_eq!(rt; status, end);
+    for rows in [REFUSED, PAGES] {
+        assert_eq!(rt; first_wrong(rt.alloc(), rows)?.as_str(), "");
     }
     Ok(())
 }

@@ -7,9 +7,11 @@
 
 mod answer;
 mod moves;
+mod owned;
 mod owners;
 mod search;
 
 pub use answer::Answer;
 pub use moves::Move;
+pub use owned::Owned;
 pub use owners::Owners;

@@ -175,7 +175,7 @@ none_listed ns n own none = ap (map (λ (m : Node). m.key)) (no_members ns n.key
 pub absent_listed : (ns : Nodes) (k : Key) → at_key ns k ≡ None → map (λ (m : Node). m.key) (radio_group ns k) ≡ []
 absent_listed ns k none = ap (map (λ (m : Node). m.key)) (no_members ns k (ap (λ (o : Option Node). option_map_or is_radio o false) none))
 
-keys_of_members : (xs : Nodes) → keys_of (map member_of xs) ≡ map (λ (m : Node). m.key) xs
+pub keys_of_members : (xs : Nodes) → keys_of (map member_of xs) ≡ map (λ (m : Node). m.key) xs
 keys_of_members [] = refl
 keys_of_members (x ∷ xs) = ap (λ (ks : List Key). x.key ∷ ks) (keys_of_members xs)
 

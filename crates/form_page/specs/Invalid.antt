@@ -1,6 +1,6 @@
 -- The invalid controls of a form (HTML, "Constraint validation", "statically validate the
 -- constraints").
-use Rattle.std.specs.Prelude.{ℕ, ◌&&◌, Bool, false, length, filter, Option, Some, None, if◌then◌else◌}
+use Rattle.std.specs.Prelude.{ℕ, ◌&&◌, Bool, false, List, length, map, filter, Option, Some, None, if◌then◌else◌}
 use Rattle.std.specs.Option.{option_map_or}
 use Rattle.form_tree.specs.declared.node.Key.{Key}
 use Rattle.form_tree.specs.declared.node.Node.{Node}
@@ -14,6 +14,10 @@ use Rattle.form_page.specs.Views.{verdict_of}
 -- the form owns the element
 abbrev pub is_owned_by : Nodes → Key → Node → Bool
 is_owned_by ns form n = option_map_or (same_key form) (owner_of ns n.key) false
+
+-- the elements that it owns, in tree order
+abbrev pub owned_by : Nodes → Key → List Key
+owned_by ns form = map (λ n. n.key) (filter (is_owned_by ns form) ns)
 
 -- A submittable element that the form owns, that is a candidate for constraint validation, and that
 -- has some flag.

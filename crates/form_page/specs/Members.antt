@@ -18,6 +18,10 @@ is_in_group ns owner name n = is_radio n && same_group owner name (owner_of ns n
 abbrev pub members_among : Nodes → Option Key → List ℕ → Nodes → List Member
 members_among ns owner name elements = map member_of (filter (is_in_group ns owner name) elements)
 
+-- the radio buttons of an owner and a name, in tree order
+abbrev pub radios_of : Nodes → Option Key → List ℕ → List Key
+radios_of ns owner name = map (λ n. n.key) (filter (is_in_group ns owner name) ns)
+
 -- what was entered are the radio buttons among these elements, each in its group
 abbrev pub AreGroupsAmong : Nodes → Entries → Nodes → Type 0
 AreGroupsAmong ns entries elements = (owner : Option Key) (name : List ℕ) → IsGroup owner name

@@ -3,6 +3,8 @@ ghost use Rattle.std.specs.Prelude.{◌≡◌, ◌+◌, ◌≤◌, length, map, 
 ghost use Rattle.std.specs.List.{count_by};
 ghost use Rattle.form_tree.specs.Elements.{is_submittable};
 ghost use Rattle.form_judge.specs.Controls.{pattern_of};
+ghost use Rattle.form_groups.specs.Holders.{AreHolders};
+ghost use Rattle.form_owner.specs.Owned.{AreOwned};
 ghost use Rattle.form_owner.specs.Owners.{owners_of};
 ghost use Rattle.form_page.specs.Members.{AreGroupsAmong};
 ghost use Rattle.form_page.specs.Page.{names_of};
@@ -14,20 +16,22 @@ use crate::file::File;
 use crate::groups::groups_of;
 use crate::sight::{Sight, all_sights};
 use crate::verdicts::all_verdicts;
-use form_groups::Groups;
+use form_groups::{Groups, Holders};
 use form_judge::Steps;
-use form_owner::Owners;
+use form_owner::{Owned, Owners};
 use form_pattern::Pattern;
 use form_tree::Tree;
 use std::alloc::{AllocError, Global};
 use std::sync::ledger::Ledger;
 
-/// The owners, the radio button groups, and by place what is seen of each element, with the verdict on
-/// each control.
+/// The owners and what each form owns, the radio button groups, the elements that have each file, and
+/// by place what is seen of each element, with the verdict on each control.
 #[derive(Drop)]
 pub struct Kept {
     pub owners: Owners,
+    pub owned: Owned,
     pub groups: Groups,
+    pub holders: Holders,
     pub sights: Vec<Option<Sight>>,
 }
 
@@ -45,6 +49,8 @@ pub fn kept_of<L: Ledger>(
     requires fresh { length fresh.old ≡ length tree.now.nodes }
     requires patterns { patterns_by patterns.old fresh.old ≡ map pattern_of tree.now.nodes }
     ensures owners { IfOk result (λ kept. kept.owners ≡ owners_of tree.now.nodes) }
+    ensures owned { IfOk result (λ kept. AreOwned kept.owned (owners_of tree.now.nodes)) }
+    ensures holders { IfOk result (λ kept. AreHolders kept.holders tree.now.nodes) }
     ensures groups { IfOk result (λ kept. AreGroupsAmong tree.now.nodes kept.groups tree.now.nodes) }
     ensures sights { IfOk result (λ kept.
         kept.sights.items ≡ map (sight_if (names_of files.now) tree.now.nodes) tree.now.nodes) }
@@ -53,13 +59,17 @@ pub fn kept_of<L: Ledger>(
     ensures bound { steps.new ≤ steps.old + count_by is_submittable tree.now.nodes }
 {
     let owners = Owners::build(alloc, tree)?;
+    let owned = Owned::build(alloc, owners.answers())?;
     let groups = groups_of(alloc, tree, owners.answers())?;
+    let holders = Holders::build(alloc, tree)?;
     let facts = all_facts(alloc, tree, owners.answers(), &groups)?;
     let verdicts = all_verdicts(alloc, tree, &facts, patterns, fresh, steps)?;
     let sights = all_sights(alloc, tree, files, owners.answers(), &verdicts)?;
     Ok(Kept {
         owners,
+        owned,
         groups,
+        holders,
         sights,
     })
 }

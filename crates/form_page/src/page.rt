@@ -7,9 +7,12 @@ ghost use Rattle.form_tree.specs.Elements.{is_form, is_submittable, is_submittab
 ghost use Rattle.form_tree.specs.Ownership.{owner_of};
 ghost use Rattle.form_tree.specs.RadioGroup.{radio_group};
 ghost use Rattle.form_tree.specs.Tree.{IsTreeOfRaws, place_of};
+ghost use Rattle.form_groups.specs.Groups.{IsGroup};
+ghost use Rattle.form_groups.specs.Holders.{holders};
 ghost use Rattle.form_owner.specs.Owners.{moves_of};
 ghost use Rattle.form_page.specs.Editing.{AreThere, edited};
-ghost use Rattle.form_page.specs.Invalid.{invalid_count};
+ghost use Rattle.form_page.specs.Invalid.{invalid_count, owned_by};
+ghost use Rattle.form_page.specs.Members.{radios_of};
 ghost use Rattle.form_page.specs.Opening.{opened};
 ghost use Rattle.form_page.specs.Page.{name_of_file, new_file};
 ghost use Rattle.form_page.specs.Views.{candidate_of, changes, flags_of_key, sight_at, value_of, view_of};
@@ -35,8 +38,9 @@ use std::marker::Model;
 use std::sync::ledger::Ledger;
 
 /// A page of forms: its tree, and the files that were handed in. Contracts see these two. What is
-/// kept beside them equals its definition over them: the compiled patterns, the owners, the radio
-/// button groups, and what is seen of each element, with the verdict on each control.
+/// kept beside them equals its definition over them: the compiled patterns, the owners, what each form
+/// owns, the radio button groups, the elements that have each file, and what is seen of each element,
+/// with the verdict on each control.
 #[derive(Drop)]
 pub struct Page {
     alloc: Global,
@@ -50,6 +54,8 @@ pub struct Page {
 impl Model for Page {
     ghost use Rattle.std.specs.Prelude.{◌≡◌, ◌<◌, ◌^◌, length, map};
     ghost use Rattle.form_judge.specs.Controls.{pattern_of};
+    ghost use Rattle.form_groups.specs.Holders.{AreHolders};
+    ghost use Rattle.form_owner.specs.Owned.{AreOwned};
     ghost use Rattle.form_owner.specs.Owners.{owners_of};
     ghost use Rattle.form_page.specs.Members.{AreGroupsAmong};
     ghost use Rattle.form_page.specs.Page.{Page, names_of};
@@ -63,7 +69,9 @@ impl Model for Page {
         × (p.kept.owners ≡ owners_of p.tree.nodes)
         × (p.patterns.items ≡ map pattern_of p.tree.nodes)
         × (p.kept.sights.items ≡ map (sight_if (names_of p.files.items) p.tree.nodes) p.tree.nodes)
-        × AreGroupsAmong p.tree.nodes p.kept.groups p.tree.nodes };
+        × AreGroupsAmong p.tree.nodes p.kept.groups p.tree.nodes
+        × AreOwned p.kept.owned (owners_of p.tree.nodes)
+        × AreHolders p.kept.holders p.tree.nodes };
 }
 
 impl Page {
@@ -154,6 +162,31 @@ impl Page {
             ),
             None => &[],
         }
+    }
+
+    /// The radio buttons of a form owner, or of none, and a name, in tree order. The number of an owner's
+    /// key is 1 or more, and the name is not empty.
+    pub fn radios(&self, owner: Option<Key>, name: &str) -> &[Key]
+        requires { IsGroup owner name.now }
+        ensures { result.now ≡ radios_of self.now.tree.nodes owner name.now }
+    {
+        self.kept.groups.members(owner, name)
+    }
+
+    /// The elements that a form owns, in tree order; none for every other key (HTML, "Association of
+    /// controls and forms").
+    pub fn owned(&self, form: Key) -> &[Key]
+        ensures { result.now ≡ owned_by self.now.tree.nodes form }
+    {
+        self.kept.owned.keys(form)
+    }
+
+    /// The elements that have a file among their selected files, in tree order, each as often as it has
+    /// it (HTML, "File Upload state").
+    pub fn holders(&self, file: u32) -> &[Key]
+        ensures { result.now ≡ holders self.now.tree.nodes file }
+    {
+        self.kept.holders.keys(file)
     }
 
     /// How many invalid controls a form has: submittable elements that it owns, that are candidates

@@ -75,6 +75,8 @@ invariant_of-self-2 g c =
       spliced c.self.inside.patterns.len c.put_patterns.new.patterns kept (size ∙ sym long) all ∙ put,
       c.in_ok-kept.ensures.sights ∙ ap (λ files. map (sight_if (names_of files) c.make_edits.new.tree.nodes) c.make_edits.new.tree.nodes) c.deref.ensures.value,
       c.in_ok-kept.ensures.groups,
+      c.in_ok-kept.ensures.owned,
+      c.in_ok-kept.ensures.holders,
     )
 
 pub returns-clause-keys : goal.returns-clause-keys

@@ -1,5 +1,6 @@
 pub mod DraftLaws
 pub mod EachLaws
+mod JoinedLaws
 pub mod KeyPlaces
 pub mod LikeLaws
 pub mod Mild

@@ -27,7 +27,7 @@ keys ns = map (λ n. n.key) ns
 
 -- ---- what is kept
 
-bare_same : (n m : Node) → m.key ≡ n.key → m.parent ≡ n.parent → m.tag ≡ n.tag → m.attrs ≡ n.attrs → bare m ≡ bare n
+pub bare_same : (n m : Node) → m.key ≡ n.key → m.parent ≡ n.parent → m.tag ≡ n.tag → m.attrs ≡ n.attrs → bare m ≡ bare n
 bare_same n m key parent tag attrs = rw (key, parent, tag, attrs) refl
 
 pub like_where : (t : Nodes) (f : Node → Node) → ((n : Node) → bare (f n) ≡ bare n) → (test : Node → Bool) (u : Nodes) → AreLike u t → AreLike (changed_where test f u) t
@@ -51,7 +51,7 @@ like_groups u t like j k = like_shared u t like j k
 
 -- ---- radio buttons
 
-off_once : IsOnce off
+pub off_once : IsOnce off
 off_once = record { key = λ n. refl; again = λ n. refl }
 
 -- the others of the group unchecked

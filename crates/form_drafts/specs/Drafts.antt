@@ -1,17 +1,18 @@
 -- The elements of a page so far, while an act is made of raw changes, step by step.
-use Rattle.std.specs.Prelude.{◌≡◌, ℕ, not, Bool, List, [], ◌∷◌, map, filter, find, fold, Option, Some, IsSome, unwrap_or, if◌then◌else◌}
+use Rattle.std.specs.Prelude.{◌≡◌, ℕ, not, Bool, false, List, [], ◌∷◌, map, filter, find, fold, Option, Some, IsSome, unwrap_or, if◌then◌else◌}
 use Rattle.std.specs.BTreeMap.{BTreeMap, get}
-use Rattle.std.specs.Option.{option_map_or}
+use Rattle.std.specs.Option.{option_map, option_map_or}
 use Rattle.std.specs.Ordering.{is_eq, nat_cmp}
 use Rattle.form_tree.specs.declared.node.Key.{Key}
 use Rattle.form_tree.specs.declared.node.Node.{Node}
-use Rattle.form_tree.specs.Elements.{passes, same_key}
+use Rattle.form_tree.specs.Elements.{is_among, passes, same_key}
 use Rattle.form_tree.specs.Ownership.{owner_of}
 use Rattle.form_tree.specs.RadioGroup.{share_group}
 use Rattle.form_tree.specs.Selects.{is_disabled_option, select_of}
 use Rattle.form_tree.specs.Tree.{Nodes, at_key, empty_state, with_node}
 use Rattle.form_owner.specs.declared.moves.Move.{Move}
 use Rattle.form_page.specs.declared.edit.Edit.{Edit}
+use Rattle.form_page.specs.declared.edit.Edit.TheVariants as edits
 use Rattle.form_page.specs.declared.file.File.{File}
 use Rattle.form_page.specs.Editing.{AreThere, edited, edited_key, files_after, nodes_after}
 use Rattle.form_page.specs.Page.{Page}
@@ -80,6 +81,16 @@ bare n = record n { text = []; state = empty_state }
 -- two lists of elements differ in texts and states alone
 abbrev pub AreLike : Nodes → Nodes → Type 0
 AreLike ns page = map bare ns ≡ map bare page
+
+-- each element but those of these keys differs from that of the page in its text and its state alone
+abbrev pub AreLikeBut : Nodes → Nodes → List Key → Type 0
+AreLikeBut ns page ks =
+    (k : Key) → is_among ks k ≡ false → option_map bare (at_key ns k) ≡ option_map bare (at_key page k)
+
+-- the key of an element whose attribute a raw change sets or takes away
+abbrev pub renamed_in : Edit → List Key
+renamed_in (edits.Attr k name value) = k ∷ []
+renamed_in edit = []
 
 -- no radio button group differs
 abbrev pub HaveGroupsOf : Nodes → Nodes → Type 0

@@ -4,7 +4,7 @@ ghost use Rattle.std.specs.Option.{option_copied};
 ghost use Rattle.form_tree.specs.Attributes.{with_attr, with_text};
 ghost use Rattle.form_tree.specs.Tree.{IsTree, at_key, attr_of, with_state};
 ghost use Rattle.form_page.specs.Editing.{AreThere, edited, nodes_after};
-ghost use Rattle.form_drafts.specs.Drafts.{AreFramed, IsMadeBy, IsWith, draft_of, page_with};
+ghost use Rattle.form_drafts.specs.Drafts.{AreFramed, AreLikeBut, IsMadeBy, IsWith, draft_of, page_with};
 
 use crate::changed::{with_attr, with_state, with_text};
 use form_page::{Edit, Page};
@@ -84,6 +84,25 @@ impl<'a> Draft<'a> {
             Some(node) => node.attr(name),
             None => None,
         }
+    }
+
+    /// The keys of elements whose attributes have changed; every other element differs from that of the
+    /// page in its text and its state alone.
+    pub fn renamed(&self) -> Result<Vec<Key>, AllocError>
+        ensures { IfOk result (λ keys. AreLikeBut self.now.nodes self.now.page.tree.nodes keys.items) }
+    {
+        let mut keys = Vec::new(self.alloc);
+        for edit in self.edits.as_slice() {
+            if let Edit::Attr {
+                key,
+                name: _,
+                value: _,
+            } = edit
+            {
+                keys.push(*key)?;
+            }
+        }
+        Ok(keys)
     }
 
     /// Puts a state in place of that of an element; of none, where there is none of that key.

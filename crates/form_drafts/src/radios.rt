@@ -1,13 +1,14 @@
 // The radio buttons after a change of checkedness, of a group or of an owner (HTML, "Radio Button
 // state").
-ghost use Rattle.std.specs.Prelude.{◌≡◌, IfOk, OnOk, map};
+ghost use Rattle.std.specs.Prelude.{◌≡◌, ◌++◌, IfOk, OnOk, filter};
 ghost use Rattle.form_tree.specs.Elements.{passes, same_owner};
 ghost use Rattle.form_tree.specs.Ownership.{owner_of};
-ghost use Rattle.form_tree.specs.RadioGroup.{is_checked, is_radio, name_of, radio_group, same_name, share_group};
+ghost use Rattle.form_tree.specs.RadioGroup.{is_checked, is_radio, name_of, same_name, share_group};
 ghost use Rattle.form_tree.specs.Tree.{with_node};
 ghost use Rattle.form_owner.specs.Owners.{moves_between};
 ghost use Rattle.form_page.specs.Settling.{moved_inputs, off, with_radio, with_radios};
-ghost use Rattle.form_drafts.specs.Drafts.{AreOwnedBy, HaveGroupsOf, HaveOwnersOf, keys_but, with_each};
+ghost use Rattle.form_drafts.specs.Drafts.{AreLikeBut, AreOwnedBy, HaveGroupsOf, HaveOwnersOf, keys_but, with_each};
+ghost use Rattle.form_drafts.specs.Joined.{AreOthers, IsJoined, NoneMovedBut, is_other, named_alike};
 
 use crate::draft::Draft;
 use crate::elements::is_radio;
@@ -31,14 +32,14 @@ pub fn take_radio(alloc: Global, draft: &mut Draft<'_>, key: Key) -> Result<(), 
     uncheck_all(draft, &others)
 }
 
-/// The same for a radio button that may have come to another group, where no owner has changed. Its
-/// group is looked for among all elements.
+/// The same for a radio button that may have come to another group, where no owner has changed.
 pub fn take_new_radio(alloc: Global, draft: &mut Draft<'_>, key: Key) -> Result<(), AllocError>
     requires { HaveOwnersOf draft.old.nodes draft.old.page.tree.nodes }
     ensures { OnOk result (draft.new ≡ record draft.old { nodes = with_radio draft.old.nodes key }) }
 {
     let moved = BTreeMap::new(alloc);
-    take_owned_radio(alloc, draft, &moved, key)
+    let joined = draft.renamed()?;
+    take_owned_radio(alloc, draft, &moved, &joined, key)
 }
 
 /// The same for each input among the elements that moved, in tree order.
@@ -55,8 +56,21 @@ pub fn take_moved_radios(
     let tree = draft.page().tree();
     tree.len();
     let moved = moved_of(alloc, moves)?;
+    let joined = joined(draft, moves)?;
     let keys = inputs_of(alloc, tree, moves)?;
-    take_radios(alloc, draft, &moved, &keys)
+    take_radios(alloc, draft, &moved, &joined, &keys)
+}
+
+// The elements that may have come to another group: those whose attributes have changed, and those that
+// moved.
+fn joined(draft: &Draft<'_>, moves: &[Move]) -> Result<Vec<Key>, AllocError>
+    ensures { IfOk result (λ keys. IsJoined draft.now moves.now keys.items) }
+{
+    let mut keys = draft.renamed()?;
+    for change in moves {
+        keys.push(change.key)?;
+    }
+    Ok(keys)
 }
 
 // The same for each of these keys in order, by the owners that elements have come to.
@@ -64,31 +78,38 @@ fn take_radios(
     alloc: Global,
     draft: &mut Draft<'_>,
     moved: &BTreeMap<u32, Option<Key>>,
+    joined: &[Key],
     keys: &[Key],
 ) -> Result<(), AllocError>
-    requires { AreOwnedBy draft.old.nodes draft.old.page.tree.nodes moved.now }
+    requires owners { AreOwnedBy draft.old.nodes draft.old.page.tree.nodes moved.now }
+    requires like { AreLikeBut draft.old.nodes draft.old.page.tree.nodes joined.now }
+    requires moved { NoneMovedBut moved.now joined.now }
     ensures { OnOk result (draft.new ≡ record draft.old { nodes = with_radios draft.old.nodes keys.now }) }
 {
     for key in keys {
-        take_owned_radio(alloc, draft, moved, *key)?;
+        take_owned_radio(alloc, draft, moved, joined, *key)?;
     }
     Ok(())
 }
 
+// The others of its group are among those of the page's group of its owner and its name, and among
+// those that may have come to it.
 fn take_owned_radio(
     alloc: Global,
     draft: &mut Draft<'_>,
     moved: &BTreeMap<u32, Option<Key>>,
+    joined: &[Key],
     key: Key,
 ) -> Result<(), AllocError>
-    requires { AreOwnedBy draft.old.nodes draft.old.page.tree.nodes moved.now }
+    requires owners { AreOwnedBy draft.old.nodes draft.old.page.tree.nodes moved.now }
+    requires like { AreLikeBut draft.old.nodes draft.old.page.tree.nodes joined.now }
+    requires moved { NoneMovedBut moved.now joined.now }
     ensures { OnOk result (draft.new ≡ record draft.old { nodes = with_radio draft.old.nodes key }) }
 {
     if !is_checked_at(draft, key) {
         return Ok(());
     }
-    let group = group_of(alloc, draft, moved, key)?;
-    let others = others_of(alloc, &group, key)?;
+    let others = others_so_far(alloc, draft, moved, joined, key)?;
     uncheck_all(draft, &others)
 }
 
@@ -142,24 +163,67 @@ fn is_checked(node: &Node) -> bool
     node.state.checked
 }
 
-// The radio button group of an element, by the owners that elements have come to.
-fn group_of(
+// The other members of the radio button group of an element so far, in any order.
+fn others_so_far(
     alloc: Global,
     draft: &Draft<'_>,
     moved: &BTreeMap<u32, Option<Key>>,
+    joined: &[Key],
     key: Key,
 ) -> Result<Vec<Key>, AllocError>
-    requires { AreOwnedBy draft.now.nodes draft.now.page.tree.nodes moved.now }
-    ensures { IfOk result (λ group. group.items ≡ map (λ n. n.key) (radio_group draft.now.nodes key)) }
+    requires owners { AreOwnedBy draft.now.nodes draft.now.page.tree.nodes moved.now }
+    requires like { AreLikeBut draft.now.nodes draft.now.page.tree.nodes joined.now }
+    requires moved { NoneMovedBut moved.now joined.now }
+    ensures { IfOk result (λ others. AreOthers draft.now.nodes key others.items) }
 {
-    let nodes = draft.page().tree().nodes();
-    let mut group = Vec::new(alloc);
-    for node in nodes {
-        if share_group(draft, moved, key, node.key) {
-            group.push(node.key)?;
+    let mut others = Vec::new(alloc);
+    push_others(draft, moved, key, named_alike(draft, moved, key), &mut others)?;
+    push_others(draft, moved, key, joined, &mut others)?;
+    Ok(others)
+}
+
+// The members of the page's group of the owner and the name that an element has so far.
+fn named_alike<'a>(
+    draft: &Draft<'a>,
+    moved: &BTreeMap<u32, Option<Key>>,
+    key: Key,
+) -> &'a [Key]
+    requires owners { AreOwnedBy draft.now.nodes draft.now.page.tree.nodes moved.now }
+    ensures { result.now ≡ named_alike draft.now key }
+{
+    let name = name_of(draft, key);
+    if name.is_empty() {
+        return &[];
+    }
+    let page = draft.page();
+    page.radios(owner_of(page, moved, key), name)
+}
+
+// Those of these keys behind the others that share the element's group with it.
+fn push_others(
+    draft: &Draft<'_>,
+    moved: &BTreeMap<u32, Option<Key>>,
+    key: Key,
+    keys: &[Key],
+    others: &mut Vec<Key>,
+) -> Result<(), AllocError>
+    requires { AreOwnedBy draft.now.nodes draft.now.page.tree.nodes moved.now }
+    ensures { OnOk result (others.new.items ≡ others.old.items ++ filter (is_other draft.now.nodes key) keys.now) }
+{
+    for other in keys {
+        if is_other(draft, moved, key, *other) {
+            others.push(*other)?;
         }
     }
-    Ok(group)
+    Ok(())
+}
+
+// Whether it is another member of the element's group.
+fn is_other(draft: &Draft<'_>, moved: &BTreeMap<u32, Option<Key>>, key: Key, other: Key) -> bool
+    requires { AreOwnedBy draft.now.nodes draft.now.page.tree.nodes moved.now }
+    ensures { result ≡ is_other draft.now.nodes key other }
+{
+    share_group(draft, moved, key, other) && key.0 != other.0
 }
 
 // Whether both are radio buttons of one group.

@@ -1,8 +1,7 @@
 // Resetting a form (HTML, "Resetting a form").
-ghost use Rattle.std.specs.Prelude.{◌≡◌, ◌&&◌, IfOk, OnOk, fold};
+ghost use Rattle.std.specs.Prelude.{◌≡◌, IfOk, OnOk, fold};
 ghost use Rattle.form_tree.specs.Elements.{is_resettable, is_resettable_tag, is_textarea, passes};
 ghost use Rattle.form_tree.specs.Tree.{with_node};
-ghost use Rattle.form_page.specs.Invalid.{is_owned_by};
 ghost use Rattle.form_page.specs.Settling.{with_selectedness};
 ghost use Rattle.form_drafts.specs.Drafts.{AreLike, draft_of, with_each};
 ghost use Rattle.form_drafts.specs.Resetting.{after_reset, reset_input, reset_option, reset_textarea, resettables, with_options_reset, with_reset};
@@ -11,7 +10,6 @@ ghost use Rattle.form_changes.specs.Values.{with_value};
 use crate::draft::Draft;
 use crate::elements::is_select_at;
 use crate::options::{options_so_far, settle};
-use crate::owned::is_owned_by;
 use crate::radios::take_radio;
 use crate::reset_states;
 use form_changes::{has_kept_value, is_textarea, sanitised};
@@ -33,20 +31,24 @@ pub fn reset<'a>(alloc: Global, page: &'a Page, form: Key) -> Result<Draft<'a>, 
 fn resettables(alloc: Global, page: &Page, form: Key) -> Result<Vec<Key>, AllocError>
     ensures { IfOk result (λ keys. keys.items ≡ resettables page.now.tree.nodes form) }
 {
-    let nodes = page.tree().nodes();
+    page.tree().len();
+    let owned = page.owned(form);
     let mut keys = Vec::new(alloc);
-    for node in nodes {
-        if is_resettable_in(page, form, node) {
-            keys.push(node.key)?;
+    for key in owned {
+        if is_resettable_at(page, *key) {
+            keys.push(*key)?;
         }
     }
     Ok(keys)
 }
 
-fn is_resettable_in(page: &Page, form: Key, node: &Node) -> bool
-    ensures { result ≡ (is_resettable node.now && is_owned_by page.now.tree.nodes form node.now) }
+fn is_resettable_at(page: &Page, key: Key) -> bool
+    ensures { result ≡ passes is_resettable page.now.tree.nodes key }
 {
-    is_resettable_tag(node.tag) && is_owned_by(page, form, node)
+    match page.tree().tag(key) {
+        Some(tag) => is_resettable_tag(tag),
+        None => false,
+    }
 }
 
 fn is_resettable_tag(tag: Tag) -> bool

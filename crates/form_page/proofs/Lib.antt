@@ -5,8 +5,9 @@ mod EditLaws
 mod FileLaws
 mod InvalidLaws
 mod Lists
-mod MemberLaws
+pub mod MemberLaws
 mod OpeningLaws
+pub mod OwnedLaws
 mod OwnerLaws
 mod RadioLaws
 mod StateLaws

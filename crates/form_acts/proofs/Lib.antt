@@ -4,6 +4,7 @@ mod ApplyLaws
 mod AttrLaws
 mod Bounds
 mod ChangeLaws
+mod ClickLaws
 mod ClickRows
 mod Counts
 mod EditedLaws

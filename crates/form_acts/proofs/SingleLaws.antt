@@ -1,20 +1,23 @@
 -- The draft after an act on one element alone.
-use Rattle.std.proofs.Common.{◌≡◌, ℕ, ◌==◌, Bool, true, false, not, ◌&&◌, cond, List, ◌≤◌, length, drop, map, Option, Some, None, Result, refl, sym, ap, ◌∙◌, subst}
-use Rattle.std.specs.List.{list_any}
+use Rattle.std.proofs.Common.{◌≡◌, ℕ, zero, suc, ◌==◌, Bool, true, false, not, ◌&&◌, ◌||◌, cond, List, [], ◌∷◌, ◌<◌, ◌≤◌, length, drop, map, get_or, Option, Some, None, Result, refl, sym, ap, ◌∙◌, subst, arith}
+use Rattle.std.specs.List.{filter, list_any}
 use Rattle.std.proofs.lemmas.List.{drop_all}
 use Rattle.std.specs.Result.{IfOk}
-use Rattle.std.proofs.lemmas.Bool.{cond_both}
+use Rattle.std.proofs.lemmas.Bool.{cond_both, or_left, or_right}
+use Rattle.std.proofs.lemmas.List.Folds.{list_any-append}
 use Rattle.std.proofs.lemmas.Result.{IfOk-weaker}
 use Rattle.form_tree.specs.declared.node.Key.{Key}
 use Rattle.form_tree.specs.declared.node.Node.{Node}
 use Rattle.form_tree.specs.declared.node.State.{State}
 use Rattle.form_tree.specs.Attributes.{set_attr, with_attr, with_text}
-use Rattle.form_tree.specs.Elements.{is_textarea, passes}
+use Rattle.form_tree.specs.Elements.{is_among, is_textarea, passes, same_key}
+use Rattle.form_tree.proofs.Laws.{same_key-refl}
+use Rattle.form_groups.specs.Holders.{held, holders}
 use Rattle.form_tree.specs.Tree.{IsTree, Nodes, Tree, at_key, with_node, with_state}
 use Rattle.form_page.specs.Page.{Page}
 use Rattle.form_changes.proofs.AttrCounts.{IsOwn}
-use Rattle.form_drafts.proofs.DraftLaws.{none_changed, put_changed, same_changed, twice_changed}
-use Rattle.form_drafts.proofs.EachLaws.{all_made, numbers_stay, withdraw_once}
+use Rattle.form_drafts.proofs.DraftLaws.{all_same, none_changed, put_changed, same_changed, twice_changed}
+use Rattle.form_drafts.proofs.EachLaws.{each_made, numbers_stay, withdraw_once}
 use Rattle.form_changes.specs.Changing.{retold, typed, without_file_number}
 use Rattle.form_drafts.specs.Drafts.{Draft, draft_of, with_each}
 use Rattle.form_changes.specs.Values.{has_kept_value}
@@ -105,12 +108,39 @@ module _ (page : Page) (draft : Draft) (begun : draft ≡ draft_of page page.tre
 pub file_stays : (file : ℕ) (n : Node) → false ≡ list_any (λ number. number == file) n.state.files → without_file_number file n ≡ n
 file_stays file n none = ap (λ (fs : List ℕ). let x : Node = record n { state = record n.state { files = fs } } in x) (numbers_stay file n.state.files (sym none))
 
-pub all_left : (page : Page) (draft : Draft) (file : ℕ) (nodes : Nodes) → nodes ≡ page.tree.nodes → draft ≡ draft_of page (with_each (without_file_number file) page.tree.nodes (map (λ n. n.key) nodes)) → draft ≡ draft_of page (map (without_file_number file) page.tree.nodes)
-all_left page draft file nodes same made =
-    made ∙ ap (draft_of page) (ap (λ (ns : Nodes). with_each (without_file_number file) page.tree.nodes (map (λ n. n.key) ns)) same ∙ all_made (without_file_number file) (withdraw_once file) page.tree.nodes)
+-- an element that has the file is among those that have it
+held_first : (file : ℕ) (n : Node) → list_any (λ number. number == file) n.state.files ≡ true → is_among (held file n) n.key ≡ true
+held_first file n has = go n.state.files has
+  where
+    go : (numbers : List ℕ) → list_any (λ number. number == file) numbers ≡ true → is_among (map (λ (number : ℕ). n.key) (filter (λ number. number == file) numbers)) n.key ≡ true
+    go [] h = absurd (cc)
+    go (x ∷ xs) h = one (x == file) (go xs) h
+      where
+        one : (b : Bool) → (list_any (λ number. number == file) xs ≡ true → is_among (map (λ (number : ℕ). n.key) (filter (λ number. number == file) xs)) n.key ≡ true) → (b || list_any (λ number. number == file) xs) ≡ true
+            → is_among (map (λ (number : ℕ). n.key) (cond b (x ∷ filter (λ number. number == file) xs) (filter (λ number. number == file) xs))) n.key ≡ true
+        one true more e = or_left _ _ (same_key-refl n.key)
+        one false more e = more e
 
-pub withdrawn : (page : Page) (draft : Draft) (file : ℕ) (nodes : Nodes) (i : ℕ) → length nodes ≤ i → nodes ≡ page.tree.nodes
-    → record draft { nodes = with_each (without_file_number file) draft.nodes (map (λ n. n.key) (drop i nodes)) } ≡ draft_of page (with_each (without_file_number file) page.tree.nodes (map (λ n. n.key) nodes)) → draft ≡ draft_of page (map (without_file_number file) page.tree.nodes)
-withdrawn page draft file nodes i past same made =
-    all_left page draft file nodes same
-    (ap (λ (xs : Nodes). let x : Draft = record draft { nodes = with_each (without_file_number file) draft.nodes (map (λ n. n.key) xs) } in x) (sym (drop_all i nodes past)) ∙ made)
+held_among : (file : ℕ) (ns : Nodes) (i : ℕ) (d : Node) → i < length ns → list_any (λ number. number == file) (get_or ns i d).state.files ≡ true → is_among (holders ns file) (get_or ns i d).key ≡ true
+held_among file [] i d below has = absurd (omega arith)
+held_among file (n ∷ ns) zero d below has = list_any-append (λ k. same_key n.key k) (held file n) (holders ns file) ∙ or_left _ _ (held_first file n has)
+held_among file (n ∷ ns) (suc i) d below has = list_any-append (λ k. same_key (get_or ns i d).key k) (held file n) (holders ns file) ∙ or_right _ _ (held_among file ns i d (omega arith) has)
+
+-- so it is enough to change these
+pub all_left : (file : ℕ) (ns : Nodes) → with_each (without_file_number file) ns (holders ns file) ≡ map (without_file_number file) ns
+all_left file ns =
+    each_made (without_file_number file) (withdraw_once file) ns (holders ns file)
+    ∙ all_same (λ n. cond (is_among (holders ns file) n.key) (without_file_number file n) n) (without_file_number file) ns (λ i d below. one (get_or ns i d) (held_among file ns i d below))
+  where
+    one : (n : Node) → (list_any (λ number. number == file) n.state.files ≡ true → is_among (holders ns file) n.key ≡ true) → cond (is_among (holders ns file) n.key) (without_file_number file n) n ≡ without_file_number file n
+    one n has = go (list_any (λ number. number == file) n.state.files) refl
+      where
+        go : (b : Bool) → list_any (λ number. number == file) n.state.files ≡ b → cond (is_among (holders ns file) n.key) (without_file_number file n) n ≡ without_file_number file n
+        go true e = rw (has e) refl
+        go false e = cond_both (is_among (holders ns file) n.key) (without_file_number file n) n (λ m. m ≡ without_file_number file n) (λ _. refl) (λ _. sym (file_stays file n (sym e)))
+
+pub withdrawn : (page : Page) (draft : Draft) (file : ℕ) (ks : List Key) (i : ℕ) → length ks ≤ i → ks ≡ holders page.tree.nodes file
+    → record draft { nodes = with_each (without_file_number file) draft.nodes (drop i ks) } ≡ draft_of page (with_each (without_file_number file) page.tree.nodes ks) → draft ≡ draft_of page (map (without_file_number file) page.tree.nodes)
+withdrawn page draft file ks i past are made =
+    ap (λ (js : List Key). let x : Draft = record draft { nodes = with_each (without_file_number file) draft.nodes js } in x) (sym (drop_all i ks past)) ∙ made
+    ∙ ap (draft_of page) (ap (with_each (without_file_number file) page.tree.nodes) are ∙ all_left file page.tree.nodes)

@@ -1,12 +1,11 @@
 // Clicks of buttons, and implicit submission.
-ghost use Rattle.std.specs.Prelude.{◌≡◌, ◌&&◌, nat_le, not};
-ghost use Rattle.form_page.specs.Invalid.{is_owned_by};
+ghost use Rattle.std.specs.Prelude.{◌≡◌, nat_le, not};
+ghost use Rattle.form_tree.specs.Elements.{passes};
 ghost use Rattle.form_acts.specs.Clicking.{activation, blocking_count, click_of, default_button, implicit_by, implicit_of, is_blocking, is_submitter, place_or_origin, takes_click};
 
 use crate::clicked::Clicked;
 use crate::elements::{is_any_button, is_blocking, is_image, is_resetter, is_submitter};
 use form_changes::ActFault;
-use form_drafts::is_owned_by;
 use form_page::Page;
 use form_tree::{Key, Node};
 
@@ -117,10 +116,11 @@ fn implicit_in(page: &Page, form: Key) -> Clicked
 fn default_button(page: &Page, form: Key) -> Option<Key>
     ensures { result ≡ default_button page.now.tree.nodes form }
 {
-    let nodes = page.tree().nodes();
-    for node in nodes {
-        if is_submitter_of(page, form, node) {
-            return Some(node.key);
+    page.tree().len();
+    let owned = page.owned(form);
+    for key in owned {
+        if is_submitter_at(page, *key) {
+            return Some(*key);
         }
     }
     None
@@ -129,10 +129,11 @@ fn default_button(page: &Page, form: Key) -> Option<Key>
 fn has_two_blocking(page: &Page, form: Key) -> bool
     ensures { result ≡ not (nat_le (blocking_count page.now.tree.nodes form) 1) }
 {
+    page.tree().len();
+    let owned = page.owned(form);
     let mut found = false;
-    let nodes = page.tree().nodes();
-    for node in nodes {
-        if is_blocking_in(page, form, node) {
+    for key in owned {
+        if is_blocking_at(page, *key) {
             if found {
                 return true;
             }
@@ -142,14 +143,20 @@ fn has_two_blocking(page: &Page, form: Key) -> bool
     false
 }
 
-fn is_submitter_of(page: &Page, form: Key, node: &Node) -> bool
-    ensures { result ≡ (is_submitter node.now && is_owned_by page.now.tree.nodes form node.now) }
+fn is_submitter_at(page: &Page, key: Key) -> bool
+    ensures { result ≡ passes is_submitter page.now.tree.nodes key }
 {
-    is_submitter(node) && is_owned_by(page, form, node)
+    match page.tree().node(key) {
+        Some(node) => is_submitter(node),
+        None => false,
+    }
 }
 
-fn is_blocking_in(page: &Page, form: Key, node: &Node) -> bool
-    ensures { result ≡ (is_blocking node.now && is_owned_by page.now.tree.nodes form node.now) }
+fn is_blocking_at(page: &Page, key: Key) -> bool
+    ensures { result ≡ passes is_blocking page.now.tree.nodes key }
 {
-    is_blocking(node) && is_owned_by(page, form, node)
+    match page.tree().node(key) {
+        Some(node) => is_blocking(node),
+        None => false,
+    }
 }

@@ -20,4 +20,3 @@ pub use clicked::Clicked;
 pub use clicking::{click, implicit};
 pub use elements::is_submitter;
 pub use form_changes::{Act, ActFault, Role, role_of};
-pub use form_drafts::is_owned_by;

@@ -125,9 +125,9 @@ pub fn withdraw<'a>(alloc: Global, page: &'a Page, file: u32) -> Result<Draft<'a
     ensures { IfOk result (λ draft. draft ≡ draft_of page.now (after_withdraw page.now.tree.nodes file)) }
 {
     let mut draft = Draft::new(alloc, page)?;
-    let nodes = page.tree().nodes();
-    for node in nodes {
-        leave(alloc, &mut draft, node.key, file)?;
+    let holders = page.holders(file);
+    for key in holders {
+        leave(alloc, &mut draft, *key, file)?;
     }
     Ok(draft)
 }

@@ -1,6 +1,6 @@
 -- The group of a radio button so far is found among the page's group of its owner and name, and those
 -- that may have come to it.
-use Rattle.std.proofs.Common.{◌≡◌, ℕ, ◌<◌, ◌++◌, Bool, true, false, not, ◌&&◌, ◌||◌, cond, List, [], ◌∷◌, length, map, take, ◌≤◌, get_or, Option, Some, None, Result, unwrap_or, refl, sym, ap, ap₂, ◌∙◌, subst, codes}
+use Rattle.std.proofs.Common.{◌≡◌, ℕ, ◌++◌, Bool, true, false, not, ◌&&◌, ◌||◌, cond, List, [], ◌∷◌, length, map, take, ◌≤◌, get_or, Option, Some, None, Result, unwrap_or, refl, sym, ap, ap₂, ◌∙◌, subst, codes}
 use Rattle.std.specs.BTreeMap.{get}
 use Rattle.std.specs.List.{filter, flat_map}
 use Rattle.std.specs.Option.{option_and_then, option_map, option_map_or}

@@ -117,7 +117,7 @@ fn is_checked_at(draft: &Draft<'_>, key: Key) -> bool
     ensures { result ≡ passes is_checked draft.now.nodes key }
 {
     match draft.node(key) {
-        Some(node) => is_checked(node),
+        Some(node) => node.state.checked,
         None => false,
     }
 }
@@ -150,17 +150,11 @@ fn uncheck(draft: &mut Draft<'_>, key: Key) -> Result<(), AllocError>
     let Some(node) = draft.node(key) else {
         return Ok(());
     };
-    if !is_checked(node) {
+    if !node.state.checked {
         return Ok(());
     }
     let state = with_checked(node, false)?;
     draft.put(key, state)
-}
-
-fn is_checked(node: &Node) -> bool
-    ensures { result ≡ is_checked node.now }
-{
-    node.state.checked
 }
 
 // The other members of the radio button group of an element so far, in any order.
@@ -177,17 +171,19 @@ fn others_so_far(
     ensures { IfOk result (λ others. AreOthers draft.now.nodes key others.items) }
 {
     let mut others = Vec::new(alloc);
-    push_others(draft, moved, key, named_alike(draft, moved, key), &mut others)?;
+    push_others(
+        draft,
+        moved,
+        key,
+        named_alike(draft, moved, key),
+        &mut others,
+    )?;
     push_others(draft, moved, key, joined, &mut others)?;
     Ok(others)
 }
 
 // The members of the page's group of the owner and the name that an element has so far.
-fn named_alike<'a>(
-    draft: &Draft<'a>,
-    moved: &BTreeMap<u32, Option<Key>>,
-    key: Key,
-) -> &'a [Key]
+fn named_alike<'a>(draft: &Draft<'a>, moved: &BTreeMap<u32, Option<Key>>, key: Key) -> &'a [Key]
     requires owners { AreOwnedBy draft.now.nodes draft.now.page.tree.nodes moved.now }
     ensures { result.now ≡ named_alike draft.now key }
 {
@@ -211,19 +207,11 @@ fn push_others(
     ensures { OnOk result (others.new.items ≡ others.old.items ++ filter (is_other draft.now.nodes key) keys.now) }
 {
     for other in keys {
-        if is_other(draft, moved, key, *other) {
+        if share_group(draft, moved, key, *other) && key.0 != other.0 {
             others.push(*other)?;
         }
     }
     Ok(())
-}
-
-// Whether it is another member of the element's group.
-fn is_other(draft: &Draft<'_>, moved: &BTreeMap<u32, Option<Key>>, key: Key, other: Key) -> bool
-    requires { AreOwnedBy draft.now.nodes draft.now.page.tree.nodes moved.now }
-    ensures { result ≡ is_other draft.now.nodes key other }
-{
-    share_group(draft, moved, key, other) && key.0 != other.0
 }
 
 // Whether both are radio buttons of one group.

@@ -1,6 +1,6 @@
 // Resetting a form (HTML, "Resetting a form").
 ghost use Rattle.std.specs.Prelude.{◌≡◌, IfOk, OnOk, fold};
-ghost use Rattle.form_tree.specs.Elements.{is_resettable, is_resettable_tag, is_textarea, passes};
+ghost use Rattle.form_tree.specs.Elements.{is_resettable, is_textarea, passes};
 ghost use Rattle.form_tree.specs.Tree.{with_node};
 ghost use Rattle.form_page.specs.Settling.{with_selectedness};
 ghost use Rattle.form_drafts.specs.Drafts.{AreLike, draft_of, with_each};
@@ -46,15 +46,9 @@ fn is_resettable_at(page: &Page, key: Key) -> bool
     ensures { result ≡ passes is_resettable page.now.tree.nodes key }
 {
     match page.tree().tag(key) {
-        Some(tag) => is_resettable_tag(tag),
+        Some(tag) => matches!(tag, Tag::Input | Tag::Select | Tag::Textarea),
         None => false,
     }
-}
-
-fn is_resettable_tag(tag: Tag) -> bool
-    ensures { result ≡ is_resettable_tag tag }
-{
-    matches!(tag, Tag::Input | Tag::Select | Tag::Textarea)
 }
 
 fn reset_all(alloc: Global, draft: &mut Draft<'_>, keys: &[Key]) -> Result<(), AllocError>

@@ -1,6 +1,6 @@
 -- What is kept of the elements of a page is what the rules say of them.
 use Rattle.std.proofs.Common.{add-one, ◌≡◌, ℕ, codes, zero, suc, ◌+◌, ◌<◌, ◌&&◌, Bool, true, false, not, cond, List, [], ◌∷◌, ◌++◌, length, map, take, Option, Some, None, refl, sym, ap, ◌∙◌, subst, arith}
-use Rattle.std.specs.List.{filter, find, slice_get}
+use Rattle.std.specs.List.{filter, slice_get}
 use Rattle.std.specs.Option.{option_and_then, option_map, option_map_or}
 use Rattle.std.proofs.lemmas.List.{length-map}
 use Rattle.std.proofs.lemmas.Option.{none-some, same_Some, slice_get-map}
@@ -8,7 +8,7 @@ use Rattle.form_tree.specs.declared.node.Key.{Key}
 use Rattle.form_tree.specs.declared.node.Node.{Node}
 use Rattle.form_tree.specs.Attributes.{set_attr, with_attr}
 use Rattle.form_tree.specs.Disabling.{disables_through, disabling_count, is_disabled, is_first_legend}
-use Rattle.form_tree.specs.Elements.{has_attr, is_fieldset, is_form, is_listed, is_submittable, passes, same_key, same_owner}
+use Rattle.form_tree.specs.Elements.{has_attr, is_fieldset, is_form, is_listed, passes, same_owner}
 use Rattle.form_tree.specs.Ownership.{id_of, key_if_form, nearest_form, owner_by, owner_of}
 use Rattle.form_tree.specs.Tree.{Nodes, IsTree, at_key, attr_of, is_key, key_at, parent_of, place_of}
 use Rattle.form_tree.proofs.Laws.{at_key_place, at_place, disabling_step, disabling_top, found_key, key_found, nearest_form_step, nearest_form_top, parent_before, parent_there}

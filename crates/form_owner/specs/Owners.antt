@@ -1,5 +1,5 @@
 -- What is kept of the elements of a page, and what an attribute change moves.
-use Rattle.std.specs.Prelude.{ℕ, ◌==◌, ◌++◌, not, Bool, false, List, [], ◌∷◌, map, filter, find, Option, Some, None, codes, if◌then◌else◌}
+use Rattle.std.specs.Prelude.{ℕ, ◌++◌, not, Bool, false, List, [], ◌∷◌, map, filter, find, Option, if◌then◌else◌}
 use Rattle.std.specs.Option.{option_and_then, option_map_or}
 use Rattle.form_tree.specs.declared.node.Key.{Key}
 use Rattle.form_tree.specs.declared.node.Node.{Node}

@@ -1,4 +1,3 @@
-mod CandidateLaws
 mod ChangeLaws
 mod CountLaws
 mod EditLaws

@@ -1,4 +1,3 @@
-pub mod Candidates
 pub mod Changes
 pub mod Editing
 pub mod Invalid

@@ -6,12 +6,13 @@ ghost use Rattle.form_owner.specs.Owners.{owners_of};
 ghost use Rattle.form_page.specs.Page.{names_of};
 ghost use Rattle.form_page.specs.Views.{is_checkable, is_checkable_kind, is_seen, sight_if, verdict_of};
 
-use crate::candidates::{in_datalists, is_candidate};
+use crate::candidates::is_candidate;
 use crate::file::File;
 use crate::owners::is_disabled;
 use crate::values::value_of;
 use form_judge::{Verdict, is_input, kind_of};
 use form_owner::Answer;
+use form_select::in_datalists;
 use form_text::Text;
 use form_tree::{Node, Tree};
 use form_types::Kind;

@@ -8,7 +8,7 @@ use Rattle.form_tree.specs.declared.node.Key.{Key}
 use Rattle.form_tree.specs.declared.node.Node.{Node}
 use Rattle.form_tree.specs.Elements.{is_among, is_optgroup, is_option, is_select, passes, same_key}
 use Rattle.form_tree.specs.Selects.{Marked, display_size, is_multiple, marked_option, options, select_above, select_of, settled, settled_by, settled_options}
-use Rattle.form_tree.specs.Tree.{Nodes, at_key, parent_of, place_of}
+use Rattle.form_tree.specs.Tree.{Nodes, parent_of, place_of}
 use Rattle.form_select.specs.Settled.{chosen_at}
 use Rattle.form_select.proofs.PlaceLaws.{kept_there, placed_node, unplaced}
 

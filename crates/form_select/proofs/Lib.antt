@@ -1,5 +1,6 @@
 mod BehindLaws
 mod ChosenLaws
+mod DatalistLaws
 pub mod Laws
 pub mod OptionLaws
 mod PlaceLaws

@@ -5,7 +5,7 @@ use Rattle.std.specs.List.{list_all, filter, slice_split, onto_first, join_with_
 use Rattle.std.specs.Option.{option_and_then, option_map, option_map_or}
 use Rattle.std.proofs.lemmas.Option.{same_Some}
 use Rattle.form_text.specs.LineEnds.{with_lf}
-use Rattle.form_text.specs.Whitespace.{is_not_empty, words, stripped_and_collapsed}
+use Rattle.form_text.specs.Whitespace.{is_not_empty, stripped_and_collapsed}
 use Rattle.form_tree.specs.declared.node.Key.{Key}
 use Rattle.form_tree.specs.declared.node.Node.{Node}
 use Rattle.form_tree.specs.declared.node.Tag.{Tag}

@@ -1,2 +1,3 @@
+pub mod Datalists
 pub mod Options
 pub mod Settled

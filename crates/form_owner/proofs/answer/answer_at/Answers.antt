@@ -1,6 +1,4 @@
-use Rattle.std.proofs.Common.{◌≡◌, Some, refl, sym, ◌∙◌, ap}
-use Rattle.std.specs.Option.{option_map}
-use Rattle.form_owner.specs.Owners.{answer_for}
+use Rattle.std.proofs.Common.{refl}
 use Rattle.form_owner.proofs.OwnerLaws.{answer_there}
 use Rattle.form_owner.proofs.answer.answer_at.Goals as goal
 

@@ -1,7 +1,6 @@
-use Rattle.std.proofs.Common.{◌≡◌, ◌+◌, ◌<◌, ◌≤◌, length, Some, arith, sym, ◌∙◌, ap}
+use Rattle.std.proofs.Common.{◌≡◌, Some, arith, sym, ◌∙◌, ap}
 use Rattle.std.specs.Option.{option_copied}
 use Rattle.form_tree.proofs.Laws.{disabling_bounded}
-use Rattle.form_tree.specs.Disabling.{disabling_count}
 use Rattle.form_owner.proofs.OwnerLaws.{disabling_known, disabling_unknown, known_above, none_before, one_before}
 use Rattle.form_owner.proofs.answer.disabling_above.Goals as goal
 

@@ -1,4 +1,4 @@
-use Rattle.std.proofs.Common.{◌≡◌, List, Some, arith, rules, sym, ◌∙◌, ap}
+use Rattle.std.proofs.Common.{◌≡◌, List, arith, ◌∙◌, ap}
 use Rattle.std.specs.List.{slice_get}
 use Rattle.std.specs.Option.{option_copied}
 use Rattle.std.proofs.lemmas.Grind.{common_steps}

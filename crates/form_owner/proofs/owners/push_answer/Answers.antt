@@ -1,4 +1,4 @@
-use Rattle.std.proofs.Common.{◌≡◌, ◌++◌, ◌∷◌, [], sym, ◌∙◌, ap}
+use Rattle.std.proofs.Common.{sym}
 use Rattle.form_tree.proofs.Laws.{key_there}
 use Rattle.form_owner.proofs.OwnerLaws.{one_more}
 use Rattle.form_owner.proofs.owners.push_answer.Goals as goal

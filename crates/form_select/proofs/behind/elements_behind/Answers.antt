@@ -1,4 +1,4 @@
-use Rattle.std.proofs.Common.{◌≡◌, ◌+◌, ◌-◌, ℕ, [], List, drop, take, Some, sym, ap, ◌∙◌, subst, arith}
+use Rattle.std.proofs.Common.{◌≡◌, ◌+◌, ◌-◌, List, drop, take, Some, sym, ap, ◌∙◌, subst, arith}
 use Rattle.std.specs.List.{All, filter}
 use Rattle.form_tree.specs.declared.node.Node.{Node}
 use Rattle.form_tree.specs.Selects.{is_option_of}

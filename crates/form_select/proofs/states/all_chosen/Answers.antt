@@ -1,4 +1,4 @@
-use Rattle.std.proofs.Common.{◌≡◌, ◌<◌, length}
+use Rattle.std.proofs.Common.{◌<◌, length}
 use Rattle.form_select.proofs.PlaceLaws.{at_own_key}
 use Rattle.form_select.proofs.states.all_chosen.Goals as goal
 

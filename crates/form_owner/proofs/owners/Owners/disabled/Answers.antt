@@ -1,4 +1,4 @@
-use Rattle.std.proofs.Common.{◌≡◌, List, Option, false, sym, ◌∙◌, ap}
+use Rattle.std.proofs.Common.{List, Option, false, ◌∙◌, ap}
 use Rattle.std.specs.Option.{option_map_or}
 use Rattle.form_owner.specs.declared.answer.Answer.{Answer}
 use Rattle.form_owner.specs.Owners.{is_kept_disabled}

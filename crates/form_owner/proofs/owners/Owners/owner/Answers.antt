@@ -1,4 +1,4 @@
-use Rattle.std.proofs.Common.{◌≡◌, List, sym, ◌∙◌, ap}
+use Rattle.std.proofs.Common.{List, ◌∙◌, ap}
 use Rattle.std.specs.Option.{option_and_then}
 use Rattle.form_owner.specs.declared.answer.Answer.{Answer}
 use Rattle.form_owner.specs.Owners.{kept_owner}

@@ -1,6 +1,6 @@
 use Rattle.std.proofs.Common.{◌≡◌, map, take}
-use Rattle.form_page.specs.Candidates.{is_in_datalist}
-use Rattle.form_page.proofs.candidates.in_datalists.Given as goal
+use Rattle.form_select.specs.Datalists.{is_in_datalist}
+use Rattle.form_select.proofs.datalists.in_datalists.Given as goal
 
 -- what is known of the elements so far
 abbrev pub invariant-loop-place : goal.invariant-loop-place

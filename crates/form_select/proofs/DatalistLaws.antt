@@ -9,7 +9,7 @@ use Rattle.form_tree.specs.Elements.{is_datalist}
 use Rattle.form_tree.specs.Ownership.{ancestors}
 use Rattle.form_tree.specs.Tree.{Nodes, IsTree, at_key, place_of}
 use Rattle.form_tree.proofs.Laws.{ancestors_step, ancestors_top, at_place, parent_before}
-use Rattle.form_page.specs.Candidates.{is_in_datalist}
+use Rattle.form_select.specs.Datalists.{is_in_datalist}
 use Rattle.form_select.proofs.Laws.{kept_there, placed_node}
 
 get-take : {X : Type 0} (xs : List X) (i j : ℕ) → j < i → slice_get (take i xs) j ≡ slice_get xs j

@@ -3,8 +3,8 @@ use Rattle.std.specs.List.{slice_get}
 use Rattle.std.proofs.lemmas.Option.{slice_get-get_or}
 use Rattle.form_tree.specs.declared.node.Node.{Node}
 use Rattle.form_tree.proofs.Places.{placed_below}
-use Rattle.form_page.proofs.CandidateLaws.{known_inside, known_long, known_outside, parent_is_before, parent_is_there, top_free}
-use Rattle.form_page.proofs.candidates.is_in_datalist.Goals as goal
+use Rattle.form_select.proofs.DatalistLaws.{known_inside, known_long, known_outside, parent_is_before, parent_is_there, top_free}
+use Rattle.form_select.proofs.datalists.is_in_datalist.Goals as goal
 
 pub returns-in_default : goal.returns-in_default
 returns-in_default c = top_free c.args.tree.now.nodes c.requires.tree c.requires.known.0 c.args.node.now c.requires.known.2 c.in_default.is

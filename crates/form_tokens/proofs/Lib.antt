@@ -4,4 +4,6 @@ pub mod Many
 pub mod Numbers
 pub mod Kept
 pub mod Texts
+pub mod Frequent
+pub mod Angles
 pub mod Laws

@@ -1,5 +1,5 @@
 -- References to characters.
-use Rattle.std.specs.Prelude.{Bool, Err, List, Ok, Result, codes, drop, if◌then◌else◌, nat_le, nat_lt, not, ℕ, ◌&&◌, ◌||◌}
+use Rattle.std.specs.Prelude.{Bool, Err, List, Ok, Result, codes, drop, get_or, if◌then◌else◌, length, nat_le, nat_lt, not, true, ℕ, ◌-◌, ◌<◌, ◌≡◌, ◌≤◌, ◌&&◌, ◌||◌}
 use Rattle.std.specs.Str.Parse.{digits_value}
 use Rattle.std.specs.Str.{bytes_eq}
 use Rattle.form_text.specs.Bytes.{number_sign, quote as quotation_mark, quote as quotation_mark, quote as quotation_mark}
@@ -67,3 +67,9 @@ begins_named text =
 -- a `&` before this text must be a reference; otherwise it is a character
 unfoldable pub begins_reference : List ℕ → Bool
 begins_reference text = begins number_sign text || begins_named text
+
+-- a reference of so many bytes stands at the front, behind its `&`, for the character; its last byte is `;`
+abbrev pub IsCommon : ℕ → ℕ → List ℕ → Type 0
+IsCommon c count text =
+    (reference_at text ≡ Ok (c, drop count text)) × (begins_reference text ≡ true)
+    × (0 < count) × (count ≤ length text) × (get_or text (count - 1) 0 ≡ semicolon)

@@ -1,5 +1,7 @@
 // Characters as they are written, and references.
-ghost use Rattle.std.specs.Prelude.{◌≡◌, ◌==◌, ◌≤◌, ◌+◌, ◌&&◌, ◌||◌, drop, length, false, IfOk, IsUtf8};
+ghost use Rattle.std.specs.Prelude.{◌≡◌, ◌==◌, ◌≤◌, ◌+◌, ◌&&◌, ◌||◌, drop, length, false, IfOk, IsUtf8, MatchOption, Ok};
+ghost use Rattle.std.specs.Char.{encode_utf8};
+ghost use Rattle.form_tokens.specs.declared.chunk.Context.{Context};
 ghost use Rattle.std.specs.List.{prefix_len};
 ghost use Rattle.form_tokens.specs.Readers.{Gives};
 ghost use Rattle.form_tokens.specs.Characters.{chunk_of, ends_name, begins_shown, chunk_at, closes_textarea, decoded, is_reference, is_shown_angle, shown_at, shown_len, is_plain};
@@ -10,7 +12,7 @@ use crate::chunk::{Chunk, Context};
 use crate::class::Class;
 use crate::cursor::{after_byte, run_len};
 use crate::fault::{Fault, Stop};
-use crate::references::reference_of;
+use crate::references::{common_of, reference_of};
 use form_text::Text;
 use memchr::memchr3;
 use std::alloc::{AllocError, Global};
@@ -41,6 +43,9 @@ fn begins_named(bytes: &[u8]) -> bool
 fn begins_reference(bytes: &[u8]) -> bool
     ensures { result ≡ begins_reference bytes.now }
 {
+    if common_of(bytes).is_some() {
+        return true;
+    }
     if begins_byte(bytes, b'#') {
         return true;
     }
@@ -57,11 +62,15 @@ fn begins_end_of_name(bytes: &[u8]) -> bool
 }
 
 /// Whether the end tag of a textarea, or what seems to be one, stands at the front.
-#[tactic(auto, unfolding(crate::specs::Characters::closes_textarea))]
+#[tactic(auto, using(crate::proofs::Angles::no_solidus), unfolding(crate::specs::Characters::closes_textarea))]
 pub fn closes_textarea(bytes: &[u8]) -> bool
     ensures { result ≡ closes_textarea bytes.now }
 {
     if bytes.len() < 10 {
+        return false;
+    }
+    // Most `<` have another byte here.
+    if bytes[1] != b'/' {
         return false;
     }
     let (front, rest) = bytes.split_at(10);
@@ -143,6 +152,26 @@ fn shown_of(context: Context, text: &str) -> Result<(&str, &str), Stop>
     Ok((shown, rest))
 }
 
+// A common reference at the front, and what stands behind it.
+#[inline(always)]
+fn common_chunk(text: &str) -> Option<(char, &str)>
+    ensures value { MatchOption result (Unit {0})
+        (λ x. (context : Context) → chunk_at context text.now ≡ Ok (encode_utf8 x.0, x.1.now)) }
+    ensures utf8 { MatchOption result (Unit {0}) (λ x. IsUtf8 x.1.now) }
+{
+    let Some((first, rest)) = text.as_bytes().split_first() else {
+        return None;
+    };
+    if *first != b'&' {
+        return None;
+    }
+    let Some((c, count)) = common_of(rest) else {
+        return None;
+    };
+    let (_, rest) = text.split_at(count + 1);
+    Some((c, rest))
+}
+
 fn is_reference(text: &str) -> bool
     ensures { result ≡ is_reference text.now }
 {
@@ -159,6 +188,9 @@ pub fn chunk_of<'a>(context: Context, text: &'a str) -> Result<(Chunk<'a>, &'a s
     ensures value { Gives (λ x. (chunk_of x.0, x.1.now)) result (chunk_at context text.now) }
     ensures utf8 { IfOk result (λ x. IsUtf8 x.1.now) }
 {
+    if let Some((c, rest)) = common_chunk(text) {
+        return Ok((Chunk::Character(c), rest));
+    }
     if is_reference(text) {
         let rest = after_byte(text, b'&')?;
         let (c, rest) = reference_of(rest)?;

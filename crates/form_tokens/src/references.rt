@@ -1,8 +1,8 @@
 // References to characters.
-ghost use Rattle.std.specs.Prelude.{◌≤◌, ◌||◌};
+ghost use Rattle.std.specs.Prelude.{◌≤◌, ◌||◌, MatchOption};
 ghost use Rattle.std.specs.Str.Parse.{IsNumeral, digits_value};
 ghost use Rattle.form_tokens.specs.Readers.{Gives};
-ghost use Rattle.form_tokens.specs.References.{character, named, named_at, number_at, numeric_at, reference_at};
+ghost use Rattle.form_tokens.specs.References.{IsCommon, character, named, named_at, number_at, numeric_at, reference_at};
 ghost use Rattle.form_tokens.specs.declared.class.Class.TheVariants as classes;
 
 use crate::class::Class;
@@ -97,6 +97,27 @@ fn named_of(text: &str) -> Result<(char, &str), Stop>
     let rest = after_byte(rest, b';')?;
     let c = named(name)?;
     Ok((c, rest))
+}
+
+/// The character of one of the references that pages have most, and how many bytes it takes behind its
+/// `&`; these are asked first, since that is faster than to look for the end of a name.
+#[inline(always)]
+pub fn common_of(bytes: &[u8]) -> Option<(char, usize)>
+    ensures { MatchOption result (Unit {0}) (λ x. IsCommon x.0 x.1 bytes.now) }
+{
+    if bytes.starts_with(b"amp;") {
+        return Some(('&', 4));
+    }
+    if bytes.starts_with(b"lt;") {
+        return Some(('<', 3));
+    }
+    if bytes.starts_with(b"gt;") {
+        return Some(('>', 3));
+    }
+    if bytes.starts_with(b"quot;") {
+        return Some(('"', 5));
+    }
+    None
 }
 
 /// The character that a reference stands for; the text stands behind its `&`.

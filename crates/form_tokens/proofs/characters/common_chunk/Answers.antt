@@ -1,0 +1,16 @@
+use Rattle.std.proofs.Common.{◌≡◌, ◌∙◌, ◌∷◌, sym, ap, ℕ, List, Ok, arith}
+use Rattle.std.specs.Char.{encode_utf8}
+use Rattle.std.proofs.lemmas.Bool.Decides.{nat_tests}
+use Rattle.form_tokens.proofs.Frequent.{frequent_boundary, frequent_value}
+use Rattle.form_tokens.proofs.characters.common_chunk.Goals as goal
+
+pub split_at-requires : goal.split_at-requires
+split_at-requires c =
+    let is : c.args.text.now ≡ c.in-Some.first.now ∷ c.in-Some.rest.now = grind (arith, c.as_bytes.ensures.value, c.in-Some.ensures.cases) in
+    frequent_boundary c.in-Some-common_of.c c.in-Some-common_of.count c.in-Some.first.now c.args.text.now c.in-Some.rest.now is c.utf8.text c.in-Some-common_of.ensures
+
+pub returns-clause-value : goal.returns-clause-value
+returns-clause-value c =
+    let is : c.args.text.now ≡ c.in-Some.first.now ∷ c.in-Some.rest.now = grind (arith, c.as_bytes.ensures.value, c.in-Some.ensures.cases) in
+    let amp : c.in-Some.first.now ≡ 38 = grind (arith, nat_tests) in
+    λ context. frequent_value c.in-Some-common_of.c c.in-Some-common_of.count c.in-Some.first.now c.args.text.now c.in-Some.rest.now is amp c.in-Some-common_of.ensures context ∙ ap (λ (xs : List ℕ). Ok (encode_utf8 c.in-Some-common_of.c, xs)) (sym c.split_at.ensures.back)

@@ -105,6 +105,12 @@ fn named_of(text: &str) -> Result<(char, &str), Stop>
 pub fn common_of(bytes: &[u8]) -> Option<(char, usize)>
     ensures { MatchOption result (Unit {0}) (λ x. IsCommon x.0 x.1 bytes.now) }
 {
+    let Some(first) = bytes.first() else {
+        return None;
+    };
+    if !first.is_ascii_lowercase() {
+        return None;
+    }
     if bytes.starts_with(b"amp;") {
         return Some(('&', 4));
     }

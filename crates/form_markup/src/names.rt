@@ -71,11 +71,16 @@ fn has_dash(name: &str) -> bool
 }
 
 /// Whether the reader refuses elements of the name.
+#[tactic(auto, using(crate::proofs::Words::short_allowed))]
 pub fn is_refused(name: &str) -> bool
     ensures { result ≡ is_refused name.now }
 {
     if has_dash(name) {
         return true;
+    }
+    // The shortest of the words has three letters, and the names of most elements have fewer.
+    if name.len() < 3 {
+        return false;
     }
     is_one_of(name, &REFUSED)
 }
@@ -87,10 +92,14 @@ pub fn is_textarea(name: &str) -> bool
 }
 
 /// What an element of the name is.
-#[tactic(auto, unfolding(crate::specs::Names::tag_in))]
+#[tactic(auto, using(crate::proofs::Words::short_other), unfolding(crate::specs::Names::tag_in))]
 pub fn tag_named(name: &str) -> Tag
     ensures { result ≡ tag_named name.now }
 {
+    // The shortest of the words has four letters.
+    if name.len() < 4 {
+        return Tag::Other;
+    }
     if is_word(name, "form") {
         return Tag::Form;
     }

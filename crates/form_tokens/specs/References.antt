@@ -71,5 +71,5 @@ begins_reference text = begins number_sign text || begins_named text
 -- a reference of so many bytes stands at the front, behind its `&`, for the character; its last byte is `;`
 abbrev pub IsCommon : ℕ → ℕ → List ℕ → Type 0
 IsCommon c count text =
-    (reference_at text ≡ Ok (c, drop count text)) × (begins_reference text ≡ true)
+    (reference_at text ≡ Ok (c, drop count text)) × (begins_named text ≡ true)
     × (0 < count) × (count ≤ length text) × (get_or text (count - 1) 0 ≡ semicolon)

@@ -5,7 +5,8 @@ ghost use Rattle.form_tokens.specs.declared.chunk.Context.{Context};
 ghost use Rattle.std.specs.List.{prefix_len};
 ghost use Rattle.form_tokens.specs.Readers.{Gives};
 ghost use Rattle.form_tokens.specs.Characters.{chunk_of, ends_name, begins_shown, chunk_at, closes_textarea, decoded, is_reference, is_shown_angle, shown_at, shown_len, is_plain};
-ghost use Rattle.form_tokens.specs.Runs.{begins, begins_so};
+ghost use Rattle.form_tokens.specs.Runs.{begins, begins_so, in_class};
+ghost use Rattle.form_tokens.specs.declared.class.Class.TheVariants as classes;
 ghost use Rattle.form_tokens.specs.References.{begins_named, begins_reference};
 
 use crate::chunk::{Chunk, Context};
@@ -38,18 +39,39 @@ fn begins_named(bytes: &[u8]) -> bool
     begins_byte(rest, b';')
 }
 
-// Whether a `&` before these bytes must be a reference.
-#[tactic(auto, unfolding(crate::specs::References::begins_reference))]
-fn begins_reference(bytes: &[u8]) -> bool
-    ensures { result ≡ begins_reference bytes.now }
+// Whether a name and `;` stand at the front.
+#[inline(never)]
+fn begins_name(bytes: &[u8]) -> bool
+    ensures { result ≡ begins_named bytes.now }
 {
     if common_of(bytes).is_some() {
         return true;
     }
+    begins_named(bytes)
+}
+
+fn begins_alphanumeric(bytes: &[u8]) -> bool
+    ensures { result ≡ begins_so (in_class classes.Alphanumeric) bytes.now }
+{
+    match bytes {
+        [first, ..] => Class::Alphanumeric.has(*first),
+        [] => false,
+    }
+}
+
+// Whether a `&` before these bytes must be a reference.
+#[inline(always)]
+#[tactic(auto, using(crate::proofs::Frequent::no_name), unfolding(crate::specs::References::begins_reference))]
+fn begins_reference(bytes: &[u8]) -> bool
+    ensures { result ≡ begins_reference bytes.now }
+{
     if begins_byte(bytes, b'#') {
         return true;
     }
-    begins_named(bytes)
+    if !begins_alphanumeric(bytes) {
+        return false;
+    }
+    begins_name(bytes)
 }
 
 fn begins_end_of_name(bytes: &[u8]) -> bool

@@ -6,14 +6,14 @@ use Rattle.std.proofs.lemmas.List.{length-replicate}
 use Rattle.form_ports.specs.Ports.{left_from}
 use Rattle.form_ports.proofs.Laws.{prepend_known-prepend}
 use Rattle.form_ports.specs.Shelf.{HasTold}
-use Rattle.form_submit.specs.Sending.{Gathers, GathersPart, FileGathers, FilePart}
+use Rattle.form_submit.specs.Sending.{Gathered, Gathers, GathersPart, FileGathers, FilePart}
 use Rattle.form_submit.proofs.GatherLaws.{Gathers-none, Gathers-more, GathersPart-more, GathersPart-whole, GathersPart-longer}
 
 pub plus_same : (a b c d : ℕ) → a ≡ b → c ≡ d → a + c ≡ b + d
 plus_same a b c d e f = omega (arith, e, f)
 
 -- a front of the content was read and gathered
-pub record Reading (content left written now : Option (List ℕ)) (kept between : List ℕ) (done : ℕ) : Type 0 where
+pub record Reading (content left written now : Option (List ℕ)) (kept between : Gathered) (done : ℕ) : Type 0 where
   pub bytes : List ℕ
   pub is_front : content ≡ prepend_known bytes left
   pub size : length bytes ≡ done
@@ -24,7 +24,7 @@ prepend_known-none None = refl
 prepend_known-none (Some all) = refl
 
 -- nothing was read yet
-pub Reading-start : (content written : Option (List ℕ)) (kept : List ℕ) (position : ℕ) → position ≡ 0
+pub Reading-start : (content written : Option (List ℕ)) (kept : Gathered) (position : ℕ) → position ≡ 0
     → Reading content (left_from position content) written written kept kept 0
 Reading-start content written kept position start = record {
   bytes = [];
@@ -34,24 +34,24 @@ Reading-start content written kept position start = record {
 }
 
 -- the same content, named otherwise
-pub Reading-of : (old content left written now : Option (List ℕ)) (kept between : List ℕ) (done : ℕ) → content ≡ old
+pub Reading-of : (old content left written now : Option (List ℕ)) (kept between : Gathered) (done : ℕ) → content ≡ old
     → Reading content left written now kept between done → Reading old left written now kept between done
 Reading-of old content left written now kept between done same so_far =
     let P : Option (List ℕ) → Type 0 = λ c. Reading c left written now kept between done in subst P same so_far
 
 -- more was read and gathered
-pub Reading-more : (content mid left written now after : Option (List ℕ)) (kept between last more : List ℕ) (done count : ℕ)
+pub Reading-more : (content mid left written now after : Option (List ℕ)) (kept between last : Gathered) (more : List ℕ) (done count : ℕ)
     → Reading content mid written now kept between done → mid ≡ prepend_known more left → Gathers now after between more last
     → length more ≡ count → Reading content left written after kept last (done + count)
 Reading-more content mid left written now after kept between last more done count so_far here gathers size = record {
   bytes = so_far.bytes ++ more;
   is_front = so_far.is_front ∙ ap (prepend_known so_far.bytes) here ∙ prepend_known-prepend so_far.bytes more left;
   size = omega (arith, length-append so_far.bytes more, so_far.size, size);
-  gathers = Gathers-more written now after kept so_far.bytes between more last so_far.gathers gathers;
+  gathers = Gathers-more written now after kept between last so_far.bytes more so_far.gathers gathers;
 }
 
 -- the end was seen: nothing more was read
-pub Reading-seen : (content mid left written now : Option (List ℕ)) (kept between : List ℕ) (done : ℕ)
+pub Reading-seen : (content mid left written now : Option (List ℕ)) (kept between : Gathered) (done : ℕ)
     → Reading content mid written now kept between done → mid ≡ prepend_known [] left → Reading content left written now kept between done
 Reading-seen content mid left written now kept between done so_far here = record {
   bytes = so_far.bytes;
@@ -76,7 +76,7 @@ may_have content (Some rest) bytes size front told fits =
     (rest, subst P (sym front) refl, subst Q front told)
 
 -- a part of the lines of such a file was printed
-pub FilePart-now : (content left written now : Option (List ℕ)) (kept between : List ℕ) (done size : ℕ)
+pub FilePart-now : (content left written now : Option (List ℕ)) (kept between : Gathered) (done size : ℕ)
     → Reading content left written now kept between done → IfSome content (λ all. length all ≡ size) → done ≤ size
     → FilePart content size written now kept
 FilePart-now content left written now kept between done size so_far told fits =
@@ -85,11 +85,11 @@ FilePart-now content left written now kept between done size so_far told fits =
       bytes = so_far.bytes ++ more.0;
       is_told = more.1;
       is_size = more.2;
-      gathers = GathersPart-longer written now kept so_far.bytes more.0 (GathersPart-whole written now kept so_far.bytes between so_far.gathers);
+      gathers = GathersPart-longer written now kept so_far.bytes more.0 (GathersPart-whole written now kept between so_far.bytes so_far.gathers);
     }
 
 -- a part of the next lines
-pub FilePart-more : (content mid left written now after : Option (List ℕ)) (kept between more : List ℕ) (done size : ℕ)
+pub FilePart-more : (content mid left written now after : Option (List ℕ)) (kept between : Gathered) (more : List ℕ) (done size : ℕ)
     → Reading content mid written now kept between done → mid ≡ prepend_known more left → GathersPart now after between more
     → IfSome content (λ all. length all ≡ size) → done + length more ≤ size → FilePart content size written after kept
 FilePart-more content mid left written now after kept between more done size so_far here part told fits =
@@ -100,7 +100,7 @@ FilePart-more content mid left written now after kept between more done size so_
       is_told = rest.1;
       is_size = rest.2;
       gathers = GathersPart-longer written after kept (so_far.bytes ++ more) rest.0
-          (GathersPart-more written now after kept so_far.bytes between more so_far.gathers part);
+          (GathersPart-more written now after kept between so_far.bytes more so_far.gathers part);
     }
 
 at_end : (content left : Option (List ℕ)) (bytes : List ℕ) → content ≡ prepend_known bytes left → IsAtEnd left → HasTold content bytes
@@ -110,7 +110,7 @@ at_end content (Some rest) bytes front end =
     subst P (sym front) (sym (ap (λ r. bytes ++ r) end ∙ append-nil bytes))
 
 -- the whole file was gathered
-pub FileGathers-end : (content left written now : Option (List ℕ)) (kept between : List ℕ) (size : ℕ)
+pub FileGathers-end : (content left written now : Option (List ℕ)) (kept between : Gathered) (size : ℕ)
     → Reading content left written now kept between size → IsAtEnd left → FileGathers content size written now kept between
 FileGathers-end content left written now kept between size so_far end = record {
   bytes = so_far.bytes;
@@ -125,7 +125,7 @@ not_told None bytes size is told other = refl
 not_told (Some all) bytes size is told other = absurd (other (ap (λ b. length b) is ∙ told))
 
 -- a file that ends before its size tells nothing
-pub untold-short : (content left written now : Option (List ℕ)) (kept between : List ℕ) (done size : ℕ)
+pub untold-short : (content left written now : Option (List ℕ)) (kept between : Gathered) (done size : ℕ)
     → Reading content left written now kept between done → IsAtEnd left → IfSome content (λ all. length all ≡ size) → done < size
     → content ≡ None
 untold-short content left written now kept between done size so_far end told short =
@@ -140,7 +140,7 @@ longer content (Some rest) bytes size front long told =
     absurd (omega (arith, e, long, length-append bytes rest))
 
 -- a file that gives more than its size tells nothing
-pub untold-long : (content mid left written now : Option (List ℕ)) (kept between more : List ℕ) (size : ℕ)
+pub untold-long : (content mid left written now : Option (List ℕ)) (kept between : Gathered) (more : List ℕ) (size : ℕ)
     → Reading content mid written now kept between size → mid ≡ prepend_known more left → 0 < length more
     → IfSome content (λ all. length all ≡ size) → content ≡ None
 untold-long content mid left written now kept between more size so_far here some told =

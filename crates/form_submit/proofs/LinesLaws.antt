@@ -1,10 +1,10 @@
--- Lines that are made up piece by piece, and how much room they take.
-use Rattle.std.proofs.Common.{◌≡◌, ℕ, zero, suc, ◌+◌, ◌*◌, ◌<◌, ◌≤◌, min, List, [], ◌∷◌, ◌++◌, length, take, drop, codes, sym, ap, ◌∙◌, arith, lit<, append_assoc, append-nil, length-append}
+-- The lines of a piece, and how much room they take.
+use Rattle.std.proofs.Common.{◌≡◌, ℕ, ◌+◌, ◌<◌, ◌≤◌, List, [], ◌∷◌, ◌++◌, length, drop, codes, sym, ap, ◌∙◌, arith, lit<, append-nil, length-append}
 use Rattle.std.proofs.lemmas.Fmt.{length-decimal-le}
-use Rattle.std.proofs.lemmas.List.{drop-drop, drop_all, drop_min, length-drop, length-take, take_min}
+use Rattle.std.proofs.lemmas.List.{drop_all, take_all}
 use Rattle.std.specs.Fmt.{decimal}
 use Rattle.form_submit.specs.PrintedRequest.{data_lines, piece_size, printed_data}
-use Rattle.form_submit.specs.Room.{batch_pieces, batch_size, frame_size, lines_size}
+use Rattle.form_submit.specs.Room.{end_size, frame_size, last_size, lines_size}
 use Rattle.form_submit.proofs.BodyLaws.{printed_data-none, printed_data-next}
 
 -- ---- how long the lines are
@@ -26,70 +26,33 @@ data_lines-le bytes fits =
     let number = length-decimal-le 4 (length bytes) (lit< tt) (omega (arith, fits)) (omega (arith, fits)) in
     omega (arith, data_lines-length bytes, fits, number)
 
--- those of so many pieces
-printed_data-le : (pieces : ℕ) (bytes : List ℕ) → length bytes ≤ pieces * piece_size
-    → length (printed_data bytes) ≤ pieces * (piece_size + frame_size)
-printed_data-le pieces [] fits = omega (arith, ap (λ d. length d) printed_data-none)
-printed_data-le zero (b ∷ bytes) fits = absurd (omega (arith, fits))
-printed_data-le (suc pieces) (b ∷ bytes) fits =
-    let all = b ∷ bytes in
-    let others = printed_data-le pieces (drop piece_size all) (omega (arith, fits, length-drop piece_size all)) in
-    let first = data_lines-le (take piece_size all) (omega (arith, length-take piece_size all)) in
-    omega (
-      arith,
-      others,
-      first,
-      ap (λ d. length d) (printed_data-next all (omega arith)),
-      length-append (data_lines (take piece_size all)) (printed_data (drop piece_size all)),
+-- there is room for them
+pub piece-fits : (lines bytes : List ℕ) → length lines + last_size ≤ lines_size → length bytes ≤ piece_size
+    → length lines + length (data_lines bytes) ≤ lines_size
+piece-fits lines bytes room fits = omega (arith, room, data_lines-le bytes fits)
+
+-- and then for the body's end
+pub piece-end : (lines bytes grown : List ℕ) → length lines + last_size ≤ lines_size → length bytes ≤ piece_size
+    → grown ≡ lines ++ data_lines bytes → length grown + end_size ≤ lines_size
+piece-end lines bytes grown room fits put =
+    omega (arith, room, data_lines-le bytes fits, ap (λ l. length l) put, length-append lines (data_lines bytes))
+
+-- also without them
+pub none-end : (lines : List ℕ) → length lines + last_size ≤ lines_size → length lines + end_size ≤ lines_size
+none-end lines room = omega (arith, room)
+
+-- ---- bytes that are one piece, or none
+
+pub printed_data-one : (bytes : List ℕ) → 0 < length bytes → length bytes ≤ piece_size → data_lines bytes ≡ printed_data bytes
+printed_data-one bytes some fits = sym (
+    printed_data-next bytes some
+    ∙ ap (λ b. data_lines b ++ printed_data (drop piece_size bytes)) (take_all piece_size bytes fits)
+    ∙ ap (λ b. data_lines bytes ++ printed_data b) (drop_all piece_size bytes fits)
+    ∙ ap (λ d. data_lines bytes ++ d) printed_data-none
+    ∙ append-nil (data_lines bytes)
     )
 
--- ---- the lines so far, and those of what is left
-
--- at first all is left
-pub cut-start : (lines bytes : List ℕ) → lines ≡ [] → lines ++ printed_data (drop 0 bytes) ≡ printed_data bytes
-cut-start lines bytes none = ap (λ l. l ++ printed_data bytes) none
-
--- what is left has a first piece
-cut-first : (lines bytes rest piece : List ℕ) (done count : ℕ) → lines ++ printed_data (drop done bytes) ≡ printed_data bytes
-    → done < length bytes → rest ≡ drop done bytes → count ≡ min piece_size (length rest) → piece ≡ take count rest
-    → lines ++ (data_lines piece ++ printed_data (drop (done + count) bytes)) ≡ printed_data bytes
-cut-first lines bytes rest piece done count so_far more behind size here =
-    let some : 0 < length rest = omega (arith, more, ap (λ r. length r) behind, length-drop done bytes) in
-    let first : piece ≡ take piece_size rest = here ∙ ap (λ n. take n rest) size ∙ take_min piece_size rest in
-    let others : drop (done + count) bytes ≡ drop piece_size rest =
-    sym (drop-drop count done bytes) ∙ ap (drop count) (sym behind) ∙ ap (λ n. drop n rest) size ∙ drop_min piece_size rest in
-    ap (λ p. lines ++ (data_lines p ++ printed_data (drop (done + count) bytes))) first
-    ∙ ap (λ b. lines ++ (data_lines (take piece_size rest) ++ printed_data b)) others
-    ∙ ap (λ d. lines ++ d) (sym (printed_data-next rest some))
-    ∙ ap (λ r. lines ++ printed_data r) behind
-    ∙ so_far
-
--- there is room for it
-pub cut-fits : (lines bytes rest piece : List ℕ) (done count : ℕ) → lines ++ printed_data (drop done bytes) ≡ printed_data bytes
-    → done < length bytes → rest ≡ drop done bytes → count ≡ min piece_size (length rest) → piece ≡ take count rest
-    → length bytes ≤ batch_size → length lines + length (data_lines piece) ≤ lines_size
-cut-fits lines bytes rest piece done count so_far more behind size here fits =
-    let left = printed_data (drop (done + count) bytes) in
-    omega (
-      arith,
-      printed_data-le batch_pieces bytes fits,
-      ap (λ l. length l) (cut-first lines bytes rest piece done count so_far more behind size here),
-      length-append lines (data_lines piece ++ left),
-      length-append (data_lines piece) left,
-    )
-
--- and it goes behind the lines so far
-pub cut-next : (lines bytes rest piece grown : List ℕ) (done count : ℕ) → lines ++ printed_data (drop done bytes) ≡ printed_data bytes
-    → done < length bytes → rest ≡ drop done bytes → count ≡ min piece_size (length rest) → piece ≡ take count rest
-    → grown ≡ lines ++ data_lines piece → grown ++ printed_data (drop (done + count) bytes) ≡ printed_data bytes
-cut-next lines bytes rest piece grown done count so_far more behind size here put =
-    ap (λ l. l ++ printed_data (drop (done + count) bytes)) put
-    ∙ append_assoc lines (data_lines piece) (printed_data (drop (done + count) bytes))
-    ∙ cut-first lines bytes rest piece done count so_far more behind size here
-
--- at last nothing is left
-pub cut-end : (lines bytes : List ℕ) (done : ℕ) → lines ++ printed_data (drop done bytes) ≡ printed_data bytes → length bytes ≤ done
-    → lines ≡ printed_data bytes
-cut-end lines bytes done so_far all =
-    sym (append-nil lines) ∙ ap (λ d. lines ++ d) (sym printed_data-none)
-    ∙ ap (λ r. lines ++ printed_data r) (sym (drop_all done bytes all)) ∙ so_far
+-- of no bytes there are no lines
+pub printed_data-zero : (lines bytes : List ℕ) → length bytes ≤ 0 → lines ≡ lines ++ printed_data bytes
+printed_data-zero lines [] none = sym (ap (λ d. lines ++ d) printed_data-none ∙ append-nil lines)
+printed_data-zero lines (b ∷ bytes) none = absurd (omega (arith, none))

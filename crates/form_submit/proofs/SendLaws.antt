@@ -17,8 +17,8 @@ use Rattle.form_submit.specs.declared.request.Piece.TheVariants as piece
 use Rattle.form_submit.specs.declared.request.SendFault.{SendFault}
 use Rattle.form_submit.specs.declared.request.SendFault.TheVariants as fault
 use Rattle.form_submit.specs.PrintedRequest.{printed_body, IsPart, IsReady, file_number, file_size, file_numbers, file_sizes}
-use Rattle.form_submit.specs.Sending.{Gathers, GathersPart, FileGathers, FilePart, PieceGathers, PiecePart, WroteBody, WroteBodyPart, FileCause, NumberCause, BodyCause}
-use Rattle.form_submit.proofs.GatherLaws.{Gathers-none, Gathers-more, GathersPart-more, GathersPart-longer, printed_body-whole, printed_body-part, printed_body-front}
+use Rattle.form_submit.specs.Sending.{Gathered, Gathers, GathersPart, nothing, FileGathers, FilePart, PieceGathers, PiecePart, WroteBody, WroteBodyPart, FileCause, NumberCause, BodyCause}
+use Rattle.form_submit.proofs.GatherLaws.{Gathers-none, Gathers-more, GathersPart-more, GathersPart-longer, printed_rest-whole, printed_rest-part, printed_rest-front}
 
 -- ---- one file of the shelf
 
@@ -58,20 +58,20 @@ LastSizes-bytes positions bytes = LastSizes-none positions
 
 -- ---- one piece
 
-pub PieceGathers-bytes : (contents : List (Option (Option (List ℕ)))) (bytes slice : List ℕ) (written now : Option (List ℕ)) (kept left : List ℕ)
+pub PieceGathers-bytes : (contents : List (Option (Option (List ℕ)))) (bytes slice : List ℕ) (written now : Option (List ℕ)) (kept left : Gathered)
     → slice ≡ bytes → Gathers written now kept slice left → PieceGathers contents (piece.Bytes bytes) written now kept left
 PieceGathers-bytes contents bytes slice written now kept left same all = record { bytes = slice; is_part = same; gathers = all }
 
-pub PiecePart-bytes : (contents : List (Option (Option (List ℕ)))) (bytes slice : List ℕ) (written now : Option (List ℕ)) (kept : List ℕ)
+pub PiecePart-bytes : (contents : List (Option (Option (List ℕ)))) (bytes slice : List ℕ) (written now : Option (List ℕ)) (kept : Gathered)
     → slice ≡ bytes → GathersPart written now kept slice → PiecePart contents (piece.Bytes bytes) written now kept
 PiecePart-bytes contents bytes slice written now kept same part = record { bytes = slice; is_part = same; gathers = part }
 
-pub PieceGathers-file : (contents : List (Option (Option (List ℕ)))) (n size : ℕ) (written now : Option (List ℕ)) (kept left : List ℕ)
+pub PieceGathers-file : (contents : List (Option (Option (List ℕ)))) (n size : ℕ) (written now : Option (List ℕ)) (kept left : Gathered)
     → FileGathers (told contents n) size written now kept left → PieceGathers contents (piece.File n size) written now kept left
 PieceGathers-file contents n size written now kept left all =
     record { bytes = all.bytes; is_part = (all.is_size, all.is_told); gathers = all.gathers }
 
-pub PiecePart-file : (contents : List (Option (Option (List ℕ)))) (n size : ℕ) (written now : Option (List ℕ)) (kept : List ℕ)
+pub PiecePart-file : (contents : List (Option (Option (List ℕ)))) (n size : ℕ) (written now : Option (List ℕ)) (kept : Gathered)
     → FilePart (told contents n) size written now kept → PiecePart contents (piece.File n size) written now kept
 PiecePart-file contents n size written now kept part =
     record { bytes = part.bytes; is_part = (part.is_size, part.is_told); gathers = part.gathers }
@@ -105,28 +105,28 @@ BodyCause-file contents positions before now n size sink_rose (Err (fault.Change
 -- ---- one piece after the other
 
 -- the pieces so far were gathered
-pub record BodyGathers (contents : List (Option (Option (List ℕ)))) (pieces : List Piece) (written now : Option (List ℕ)) (left : List ℕ) : Type 0 where
+pub record BodyGathers (contents : List (Option (Option (List ℕ)))) (pieces : List Piece) (written now : Option (List ℕ)) (left : Gathered) : Type 0 where
   pub parts : List (List ℕ)
   pub each : AllZip (IsPart contents) pieces parts
-  pub gathers : Gathers written now [] (concat parts) left
+  pub gathers : Gathers written now nothing (concat parts) left
 
-pub BodyGathers-none : (contents : List (Option (Option (List ℕ)))) (written : Option (List ℕ)) → BodyGathers contents [] written written []
-BodyGathers-none contents written = record { parts = []; each = tt; gathers = Gathers-none written [] }
+pub BodyGathers-none : (contents : List (Option (Option (List ℕ)))) (written : Option (List ℕ)) → BodyGathers contents [] written written nothing
+BodyGathers-none contents written = record { parts = []; each = tt; gathers = Gathers-none written nothing }
 
 -- one more piece was gathered
 pub BodyGathers-turn : (contents mid_contents : List (Option (Option (List ℕ)))) (pieces : List Piece) (i : ℕ) (d : Piece) (written mid now : Option (List ℕ))
-    (between left : List ℕ) → i < length pieces → mid_contents ≡ contents
+    (between left : Gathered) → i < length pieces → mid_contents ≡ contents
     → BodyGathers contents (take i pieces) written mid between → PieceGathers mid_contents (get_or pieces i d) mid now between left
     → BodyGathers contents (take (i + 1) pieces) written now left
 BodyGathers-turn contents mid_contents pieces i d written mid now between left h same so_far here =
     let P : List (Option (Option (List ℕ))) → Type 0 = λ cs. IsPart cs (get_or pieces i d) here.bytes in
     let Q : List Piece → Type 0 = λ ps. BodyGathers contents ps written now left in
-    let R : List ℕ → Type 0 = λ b. Gathers written now [] b left in
+    let R : List ℕ → Type 0 = λ b. Gathers written now nothing b left in
     subst Q (sym (take_more pieces i d h)) (record {
       parts = so_far.parts ++ here.bytes ∷ [];
       each = AllZip-append (IsPart contents) (take i pieces) (get_or pieces i d ∷ []) so_far.parts (here.bytes ∷ []) so_far.each (subst P same here.is_part, tt);
       gathers = subst R (ap (λ b. concat so_far.parts ++ b) (sym (append-nil here.bytes)) ∙ sym (concat-append so_far.parts (here.bytes ∷ [])))
-          (Gathers-more written mid now [] (concat so_far.parts) between here.bytes left so_far.gathers here.gathers);
+          (Gathers-more written mid now nothing between left (concat so_far.parts) here.bytes so_far.gathers here.gathers);
     })
 
 -- bytes that the pieces may have
@@ -148,14 +148,14 @@ may_be contents (piece.File n size ∷ pieces) ready =
 
 -- a part of the next piece was printed
 pub WroteBodyPart-turn : (contents mid_contents : List (Option (Option (List ℕ)))) (pieces : List Piece) (i : ℕ) (d : Piece) (written mid now : Option (List ℕ))
-    (between : List ℕ) → i < length pieces → mid_contents ≡ contents → All (λ one. IsReady contents one) pieces
+    (between : Gathered) → i < length pieces → mid_contents ≡ contents → All (λ one. IsReady contents one) pieces
     → BodyGathers contents (take i pieces) written mid between → PiecePart mid_contents (get_or pieces i d) mid now between
     → WroteBodyPart contents pieces written now
 WroteBodyPart-turn contents mid_contents pieces i d written mid now between h same ready so_far here =
     let P : List (Option (Option (List ℕ))) → Type 0 = λ cs. IsPart cs (get_or pieces i d) here.bytes in
     let rest = may_be contents (drop (i + 1) pieces) (All-drop (λ one. IsReady contents one) (i + 1) pieces ready) in
     let parts = so_far.parts ++ here.bytes ∷ rest.0 in
-    let R : List ℕ → Type 0 = λ b. GathersPart written now [] b in
+    let R : List ℕ → Type 0 = λ b. GathersPart written now nothing b in
     let Q : List Piece → Type 0 = λ ps. AllZip (IsPart contents) ps parts in
     record {
       body = concat parts;
@@ -166,15 +166,15 @@ WroteBodyPart-turn contents mid_contents pieces i d written mid now between h sa
             so_far.each (subst P same here.is_part, rest.1));
         whole = refl;
       };
-      lines = printed_body-front written now (concat parts)
+      lines = printed_rest-front written now nothing (concat parts)
           (subst R (append_assoc (concat so_far.parts) here.bytes (concat rest.0) ∙ sym (concat-append so_far.parts (here.bytes ∷ rest.0)))
-          (GathersPart-longer written now [] (concat so_far.parts ++ here.bytes) (concat rest.0)
-          (GathersPart-more written mid now [] (concat so_far.parts) between here.bytes so_far.gathers here.gathers)));
+          (GathersPart-longer written now nothing (concat so_far.parts ++ here.bytes) (concat rest.0)
+          (GathersPart-more written mid now nothing between (concat so_far.parts) here.bytes so_far.gathers here.gathers)));
     }
 
 -- all pieces were gathered, and the rest is printed
-pub WroteBody-end : (contents : List (Option (Option (List ℕ)))) (pieces : List Piece) (i : ℕ) (written mid now : Option (List ℕ)) (left : List ℕ)
-    → length pieces ≤ i → BodyGathers contents (take i pieces) written mid left → now ≡ append_known mid (printed_body left)
+pub WroteBody-end : (contents : List (Option (Option (List ℕ)))) (pieces : List Piece) (i : ℕ) (written mid now : Option (List ℕ)) (left : Gathered)
+    → length pieces ≤ i → BodyGathers contents (take i pieces) written mid left → now ≡ append_known mid (left.lines ++ printed_body left.bytes)
     → WroteBody contents pieces written now
 WroteBody-end contents pieces i written mid now left all so_far here = record {
   body = concat so_far.parts;
@@ -183,12 +183,12 @@ WroteBody-end contents pieces i written mid now left all so_far here = record {
     each = let Q : List Piece → Type 0 = λ ps. AllZip (IsPart contents) ps so_far.parts in subst Q (take_all i pieces all) so_far.each;
     whole = refl;
   };
-  lines = printed_body-whole written mid now (concat so_far.parts) left so_far.gathers here;
+  lines = printed_rest-whole written mid now nothing left (concat so_far.parts) so_far.gathers here;
 }
 
 -- or a part of it
-pub WroteBodyPart-end : (contents : List (Option (Option (List ℕ)))) (pieces : List Piece) (i : ℕ) (written mid now : Option (List ℕ)) (left : List ℕ)
-    → length pieces ≤ i → BodyGathers contents (take i pieces) written mid left → WrotePart mid now (printed_body left)
+pub WroteBodyPart-end : (contents : List (Option (Option (List ℕ)))) (pieces : List Piece) (i : ℕ) (written mid now : Option (List ℕ)) (left : Gathered)
+    → length pieces ≤ i → BodyGathers contents (take i pieces) written mid left → WrotePart mid now (left.lines ++ printed_body left.bytes)
     → WroteBodyPart contents pieces written now
 WroteBodyPart-end contents pieces i written mid now left all so_far here = record {
   body = concat so_far.parts;
@@ -197,7 +197,7 @@ WroteBodyPart-end contents pieces i written mid now left all so_far here = recor
     each = let Q : List Piece → Type 0 = λ ps. AllZip (IsPart contents) ps so_far.parts in subst Q (take_all i pieces all) so_far.each;
     whole = refl;
   };
-  lines = printed_body-part written mid now (concat so_far.parts) left so_far.gathers here;
+  lines = printed_rest-part written mid now nothing left (concat so_far.parts) so_far.gathers here;
 }
 
 -- the files of the pieces so far stand at their sizes
@@ -306,7 +306,7 @@ BodyCause-turn (fault.Changed a b) contents mid_contents positions first before 
 -- ---- the same, of the item that a loop gives
 
 pub BodyGathers-item : (contents mid_contents : List (Option (Option (List ℕ)))) (pieces : List Piece) (i : ℕ) (one : Piece) (written mid now : Option (List ℕ))
-    (between left : List ℕ) → one ≡ get_or pieces i one → i < length pieces → mid_contents ≡ contents
+    (between left : Gathered) → one ≡ get_or pieces i one → i < length pieces → mid_contents ≡ contents
     → BodyGathers contents (take i pieces) written mid between → PieceGathers mid_contents one mid now between left
     → BodyGathers contents (take (i + 1) pieces) written now left
 BodyGathers-item contents mid_contents pieces i one written mid now between left at h same so_far here =
@@ -314,7 +314,7 @@ BodyGathers-item contents mid_contents pieces i one written mid now between left
     BodyGathers-turn contents mid_contents pieces i one written mid now between left h same so_far (subst P at here)
 
 pub WroteBodyPart-item : (contents mid_contents : List (Option (Option (List ℕ)))) (pieces : List Piece) (i : ℕ) (one : Piece) (written mid now : Option (List ℕ))
-    (between : List ℕ) → one ≡ get_or pieces i one → i < length pieces → mid_contents ≡ contents → All (λ one. IsReady contents one) pieces
+    (between : Gathered) → one ≡ get_or pieces i one → i < length pieces → mid_contents ≡ contents → All (λ one. IsReady contents one) pieces
     → BodyGathers contents (take i pieces) written mid between → PiecePart mid_contents one mid now between
     → WroteBodyPart contents pieces written now
 WroteBodyPart-item contents mid_contents pieces i one written mid now between at h same ready so_far here =

@@ -1,5 +1,5 @@
 -- What was written of a request whose body is gathered into pieces, and why its sending stopped.
-use Rattle.std.specs.Prelude.{◌≡◌, ◌≢◌, ℕ, ◌*◌, List, ◌++◌, length, Option, Some, None, Contains}
+use Rattle.std.specs.Prelude.{◌≡◌, ◌≢◌, ℕ, ◌*◌, List, [], ◌++◌, length, Option, Some, None, Contains}
 use Rattle.std.specs.Io.KnownBytes.{append_known}
 use Rattle.form_ports.specs.Written.{WrotePart}
 use Rattle.form_ports.specs.Shelf.{at_number, told, HasTold, FileRose, SomeRose}
@@ -33,7 +33,7 @@ pub record WroteBody (contents : List (Option (Option (List ℕ)))) (pieces : Li
   pub is_body : IsBody contents pieces body
   pub lines : now ≡ append_known written (printed_body body)
 
--- a front of the body's lines was printed
+-- a front of the body's lines was written
 pub record WroteBodyPart (contents : List (Option (Option (List ℕ)))) (pieces : List Piece)
     (written now : Option (List ℕ)) : Type 0 where
   pub body : List ℕ
@@ -75,33 +75,44 @@ NumberCause (fault.Changed a b) content number size positions sink_rose before n
 
 -- ---- bytes that are gathered into pieces
 
--- behind the bytes that were kept came these; whole pieces at the front of all of them were printed, and the others are left
-pub record Gathers (written now : Option (List ℕ)) (kept bytes left : List ℕ) : Type 0 where
+-- what came of a body and is not written yet: the lines of whole pieces, and then bytes that are not printed yet
+pub record Gathered : Type 0 where
+  pub lines : List ℕ
+  pub bytes : List ℕ
+
+abbrev pub nothing : Gathered
+nothing = record { lines = []; bytes = [] }
+
+-- Behind the bytes that were kept came these. Whole pieces at the front of all of them were printed, behind the lines
+-- that were kept, and the other bytes are kept. A front of these lines was written, and the other lines are kept.
+pub record Gathers (written now : Option (List ℕ)) (kept : Gathered) (more : List ℕ) (left : Gathered) : Type 0 where
   pub printed : List ℕ
   pub pieces : ℕ
-  pub whole : kept ++ bytes ≡ printed ++ left
+  pub front : List ℕ
+  pub whole : kept.bytes ++ more ≡ printed ++ left.bytes
   pub size : length printed ≡ pieces * piece_size
-  pub lines : now ≡ append_known written (printed_data printed)
+  pub lines : kept.lines ++ printed_data printed ≡ front ++ left.lines
+  pub wrote : now ≡ append_known written front
 
--- a front of such lines was printed
-pub record GathersPart (written now : Option (List ℕ)) (kept bytes : List ℕ) : Type 0 where
+-- a front of such lines was written
+pub record GathersPart (written now : Option (List ℕ)) (kept : Gathered) (more : List ℕ) : Type 0 where
   pub printed : List ℕ
   pub rest : List ℕ
   pub pieces : ℕ
-  pub whole : kept ++ bytes ≡ printed ++ rest
+  pub whole : kept.bytes ++ more ≡ printed ++ rest
   pub size : length printed ≡ pieces * piece_size
-  pub lines : WrotePart written now (printed_data printed)
+  pub wrote : WrotePart written now (kept.lines ++ printed_data printed)
 
 -- all bytes of a file of this size were gathered
 pub record FileGathers (content : Option (List ℕ)) (size : ℕ) (written now : Option (List ℕ))
-    (kept left : List ℕ) : Type 0 where
+    (kept left : Gathered) : Type 0 where
   pub bytes : List ℕ
   pub is_told : HasTold content bytes
   pub is_size : length bytes ≡ size
   pub gathers : Gathers written now kept bytes left
 
--- a front of the lines of such a file was printed
-pub record FilePart (content : Option (List ℕ)) (size : ℕ) (written now : Option (List ℕ)) (kept : List ℕ) : Type 0 where
+-- a front of the lines of such a file was written
+pub record FilePart (content : Option (List ℕ)) (size : ℕ) (written now : Option (List ℕ)) (kept : Gathered) : Type 0 where
   pub bytes : List ℕ
   pub is_told : HasTold content bytes
   pub is_size : length bytes ≡ size
@@ -109,14 +120,14 @@ pub record FilePart (content : Option (List ℕ)) (size : ℕ) (written now : Op
 
 -- a piece of a body was gathered
 pub record PieceGathers (contents : List (Option (Option (List ℕ)))) (one : Piece) (written now : Option (List ℕ))
-    (kept left : List ℕ) : Type 0 where
+    (kept left : Gathered) : Type 0 where
   pub bytes : List ℕ
   pub is_part : IsPart contents one bytes
   pub gathers : Gathers written now kept bytes left
 
--- a front of its lines was printed
+-- a front of its lines was written
 pub record PiecePart (contents : List (Option (Option (List ℕ)))) (one : Piece) (written now : Option (List ℕ))
-    (kept : List ℕ) : Type 0 where
+    (kept : Gathered) : Type 0 where
   pub bytes : List ℕ
   pub is_part : IsPart contents one bytes
   pub gathers : GathersPart written now kept bytes

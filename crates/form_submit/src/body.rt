@@ -3,7 +3,6 @@ ghost use Rattle.std.specs.Prelude.{◌≡◌, ◌≢◌, ℕ, ◌∷◌, [], �
 ghost use Rattle.form_ports.specs.Ports.{Rose};
 ghost use Rattle.form_ports.specs.Shelf.{contents_of, numbers_of, at_number, IsThere, told, NoneFell, LastSizes};
 ghost use Rattle.form_submit.specs.PrintedRequest.{IsReady, file_numbers, file_sizes};
-ghost use Rattle.form_submit.specs.Room.{batch_size};
 ghost use Rattle.form_submit.specs.Sending.{FileGathers, FilePart, NumberCause, PieceGathers, PiecePart, BodyCause, WroteBody, WroteBodyPart};
 
 use crate::file::send_file;
@@ -22,14 +21,12 @@ fn send_numbered<K: Sink>(
     requires there { IsThere (contents_of (λ b. content b) shelf.old.items) number }
     requires size { size < 2 ^ 64 - 1 }
     requires told { IfSome (told (contents_of (λ b. content b) shelf.old.items) number) (λ all. length all ≡ size) }
-    requires room { length gatherer.old < batch_size }
     ensures kept { contents_of (λ b. content b) shelf.new.items ≡ contents_of (λ b. content b) shelf.old.items }
     ensures counts { NoneFell (numbers_of (λ b. (⟦<dyn Blob as Blob>⟧ b.vtable).faults b.value) shelf.old.items)
         (numbers_of (λ b. (⟦<dyn Blob as Blob>⟧ b.vtable).faults b.value) shelf.new.items) }
     ensures others { (k : ℕ) → k ≢ number → at_number shelf.new.items k ≡ at_number shelf.old.items k }
     ensures gathers { OnOk result (FileGathers (told (contents_of (λ b. content b) shelf.old.items) number) size
         (K.written sink.old) (K.written sink.new) gatherer.old gatherer.new) }
-    ensures room { OnOk result (length gatherer.new < batch_size) }
     ensures position { OnOk result (at_number (numbers_of (λ b. position b) shelf.new.items) number ≡ Some (Some size)) }
     ensures part { FilePart (told (contents_of (λ b. content b) shelf.old.items) number) size
         (K.written sink.old) (K.written sink.new) gatherer.old }
@@ -54,7 +51,6 @@ fn send_piece<K: Sink>(
     sink: &mut K,
 ) -> Result<(), SendFault>
     requires ready { IsReady (contents_of (λ b. content b) shelf.old.items) piece.now }
-    requires room { length gatherer.old < batch_size }
     ensures kept { contents_of (λ b. content b) shelf.new.items ≡ contents_of (λ b. content b) shelf.old.items }
     ensures counts { NoneFell (numbers_of (λ b. (⟦<dyn Blob as Blob>⟧ b.vtable).faults b.value) shelf.old.items)
         (numbers_of (λ b. (⟦<dyn Blob as Blob>⟧ b.vtable).faults b.value) shelf.new.items) }
@@ -62,7 +58,6 @@ fn send_piece<K: Sink>(
         → at_number shelf.new.items k ≡ at_number shelf.old.items k }
     ensures gathers { OnOk result (PieceGathers (contents_of (λ b. content b) shelf.old.items) piece.now
         (K.written sink.old) (K.written sink.new) gatherer.old gatherer.new) }
-    ensures room { OnOk result (length gatherer.new < batch_size) }
     ensures position { OnOk result (LastSizes (numbers_of (λ b. position b) shelf.new.items)
         (file_numbers (piece.now ∷ [])) (file_sizes (piece.now ∷ []))) }
     ensures part { PiecePart (contents_of (λ b. content b) shelf.old.items) piece.now

@@ -2,7 +2,6 @@
 ghost use Rattle.std.specs.Prelude.{◌≡◌, ◌≤◌, ◌<◌, ◌+◌, ◌-◌, ◌^◌, length, IfErr, IfSome, OnOk};
 ghost use Rattle.std.specs.Io.KnownBytes.{prepend_known, IsAtEnd};
 ghost use Rattle.form_ports.specs.Ports.{Rose, GotWithin, ReadCounts, read_bytes, left_from};
-ghost use Rattle.form_submit.specs.Room.{batch_size};
 ghost use Rattle.form_submit.specs.Sending.{FileGathers, FilePart, FileCause};
 
 use crate::gatherer::Gatherer;
@@ -22,13 +21,11 @@ pub fn send_file<K: Sink>(
 ) -> Result<(), SendFault>
     requires size { size < 2 ^ 64 - 1 }
     requires told { IfSome (content blob.old) (λ all. length all ≡ size) }
-    requires room { length gatherer.old < batch_size }
     ensures same { content blob.new ≡ content blob.old }
     ensures later { (⟦<dyn Blob as Blob>⟧ blob.old.vtable).faults blob.old.value
         ≤ (⟦<dyn Blob as Blob>⟧ blob.new.vtable).faults blob.new.value }
     ensures gathers { OnOk result (FileGathers (content blob.old) size (K.written sink.old) (K.written sink.new)
         gatherer.old gatherer.new) }
-    ensures room { OnOk result (length gatherer.new < batch_size) }
     ensures position { OnOk result (position blob.new ≡ size) }
     ensures part { FilePart (content blob.old) size (K.written sink.old) (K.written sink.new) gatherer.old }
     ensures cause { IfErr result (λ fault. FileCause fault (content blob.old) size (position blob.new)

@@ -1,7 +1,7 @@
 //! The submission of a form, and how a request is written.
 //!
-//! The bytes of a request's body are gathered in a buffer of 65,536 bytes and printed in pieces, 64 of
-//! them in one write, so that neither a body nor a file is ever held whole.
+//! The bytes of a request's body are gathered in a buffer of 1,024 bytes and printed in pieces, the lines of
+//! 64 of them in one write, so that neither a body nor a file is ever held whole.
 //!
 //! The URL Standard and the writing of pairs are those of the crates `url` and `form_urlencoded`:
 //! the definitions cite their own.

@@ -32,9 +32,9 @@ fn write_post<K: Sink>(url: &[u8], kind: &[u8], sink: &mut K) -> Result<(), Writ
     write_parts(sink, &[b"request POST ", url, b"\ntype ", kind, b"\n"])
 }
 
-/// Writes a request in its printed form. It takes no memory and never holds a file: of the body at
-/// most 65,536 bytes are kept at a time. Each file that a piece names is rewound, read once more, and
-/// has to end after as many bytes as its piece says.
+/// Writes a request in its printed form. It takes no memory and never holds a file: the body is gathered
+/// in a buffer of 1,024 bytes, behind the lines of at most 64 pieces that are not written yet. Each file
+/// that a piece names is rewound, read once more, and has to end after as many bytes as its piece says.
 ///
 /// Of a POST request the kind is there, and so is each file that a piece names; where a file tells its
 /// content, the size of its piece is that content's length. After a fault what was written is a front of

@@ -5,7 +5,7 @@ use Rattle.form_submit.proofs.SendLaws.{LastSizes-item, LastSizes-start, LastSiz
 use Rattle.form_submit.proofs.body.send_body.Goals as goal
 
 pub sending-init : goal.sending-init
-sending-init g c = (refl, NoneFell-same _, λ k other. refl, rw c.new-gatherer.ensures (BodyGathers-none _ _), LastSizes-start _, rw c.new-gatherer.ensures (omega arith), omega arith)
+sending-init g c = (refl, NoneFell-same _, λ k other. refl, rw c.new-gatherer.ensures (BodyGathers-none _ _), LastSizes-start _, omega arith)
 
 pub sending-preserved : goal.sending-preserved
 sending-preserved g c = (
@@ -14,8 +14,7 @@ sending-preserved g c = (
   others-item _ _ _ _ _ _ c.piece-item.is c.sending-test.true c.sending.invariant.2 c.in-Ok.ensures.others,
   BodyGathers-item _ _ _ _ _ _ _ _ _ _ c.piece-item.is c.sending-test.true c.sending.invariant.0 c.sending.invariant.3 c.in-Ok.ensures.gathers,
   LastSizes-item _ _ _ _ _ _ c.piece-item.is c.sending-test.true c.sending.invariant.4 c.in-Ok.ensures.others c.in-Ok.ensures.position,
-  c.in-Ok.ensures.room,
-  omega (arith, c.in-Ok.ensures.sink_later, c.sending.invariant.6),
+  omega (arith, c.in-Ok.ensures.sink_later, c.sending.invariant.5),
 )
 
 pub returns-in-Err-clause-counts : goal.returns-in-Err-clause-counts
@@ -31,7 +30,7 @@ returns-in-Err-clause-part g c =
 
 pub returns-in-Err-clause-cause : goal.returns-in-Err-clause-cause
 returns-in-Err-clause-cause g c =
-    BodyCause-item _ _ _ _ _ _ _ _ _ _ _ _ _ c.piece-item.is c.sending-test.true c.sending.invariant.0 c.sending.invariant.6 c.sending.invariant.1 c.in-Err.ensures.cause
+    BodyCause-item _ _ _ _ _ _ _ _ _ _ _ _ _ c.piece-item.is c.sending-test.true c.sending.invariant.0 c.sending.invariant.5 c.sending.invariant.1 c.in-Err.ensures.cause
 
 pub returns-in-Ok-finish-clause-whole : goal.returns-in-Ok-finish-clause-whole
 returns-in-Ok-finish-clause-whole g c =

@@ -1,8 +1,7 @@
-use Rattle.std.proofs.Common.{◌≡◌, ◌≤◌, ◌<◌, ℕ, take, length}
+use Rattle.std.proofs.Common.{◌≡◌, ◌≤◌, ℕ, take}
 use Rattle.std.specs.Prelude.{Contains}
 use Rattle.form_ports.specs.Shelf.{contents_of, numbers_of, at_number, NoneFell, LastSizes}
 use Rattle.form_submit.specs.PrintedRequest.{file_numbers, file_sizes}
-use Rattle.form_submit.specs.Room.{batch_size}
 use Rattle.form_submit.proofs.SendLaws.{BodyGathers}
 use Rattle.form_submit.proofs.body.send_body.Given as goal
 
@@ -18,5 +17,4 @@ invariant-sending g l =
     (take l.piece-index l.pieces) (g.K.Sink.written l.initial.sink) (g.K.Sink.written l.sink) l.gatherer
     × LastSizes (numbers_of (λ b. (goal.Blob-dyn g (b.vtable, b.value)).position b.value) l.shelf.items)
     (file_numbers (take l.piece-index l.pieces)) (file_sizes (take l.piece-index l.pieces))
-    × (length l.gatherer < batch_size)
     × (g.K.Sink.faults l.initial.sink ≤ g.K.Sink.faults l.sink)

@@ -1,6 +1,5 @@
-use Rattle.std.proofs.Common.{◌≡◌, ◌-◌, ◌≤◌, ◌<◌, length}
+use Rattle.std.proofs.Common.{◌≡◌, ◌-◌, ◌≤◌, length}
 use Rattle.form_ports.specs.Ports.{left_from}
-use Rattle.form_submit.specs.Room.{batch_size}
 use Rattle.form_submit.proofs.FileLaws.{Reading}
 use Rattle.form_submit.proofs.file.send_file.Given as goal
 
@@ -14,7 +13,6 @@ invariant-reading g l =
     (g.K.Sink.written l.initial.sink) (g.K.Sink.written l.sink) l.initial.gatherer l.gatherer l.done
     × (now.position l.blob.value ≡ l.done)
     × (l.done ≤ l.size)
-    × (length l.gatherer < batch_size)
     × (first.faults l.initial.blob.value ≤ now.faults l.blob.value)
     × (g.K.Sink.faults l.initial.sink ≤ g.K.Sink.faults l.sink)
     × (length l.room ≡ 16384)

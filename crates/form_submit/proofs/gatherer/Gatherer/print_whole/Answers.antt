@@ -1,21 +1,15 @@
-use Rattle.std.proofs.Common.{sym, ◌∙◌, ap, length}
-use Rattle.form_submit.proofs.GatherLaws.{Gathers-batch, GathersPart-batch, GathersPart-whole, Gathers-none}
+use Rattle.std.proofs.Common.{arith, ap, length}
+use Rattle.form_submit.proofs.GatherLaws.{Gathers-none, Gathers-whole, GathersPart-whole}
 use Rattle.form_submit.proofs.gatherer.Gatherer.print_whole.Goals as goal
 
-pub returns-in_err-print-clause-part : goal.returns-in_err-print-clause-part
-returns-in_err-print-clause-part g c =
-    GathersPart-batch _ _ _ (ap length (sym c.bytes-kept.ensures.bytes) ∙ c.if-kept-eq-BATCH_SIZE.true) c.in_err-print.ensures.part
+pub returns-then-piece-lt-PIECE_SIZE-clause-gathers : goal.returns-then-piece-lt-PIECE_SIZE-clause-gathers
+returns-then-piece-lt-PIECE_SIZE-clause-gathers g c = Gathers-none _ _
 
-pub returns-in_ok-print-clause-gathers : goal.returns-in_ok-print-clause-gathers
-returns-in_ok-print-clause-gathers g c =
-    rw c.clear.ensures (Gathers-batch _ _ _ (ap length (sym c.bytes-kept.ensures.bytes) ∙ c.if-kept-eq-BATCH_SIZE.true) c.in_ok-print.ensures.whole)
+pub returns-then-piece-lt-PIECE_SIZE-clause-part : goal.returns-then-piece-lt-PIECE_SIZE-clause-part
+returns-then-piece-lt-PIECE_SIZE-clause-part g c = GathersPart-whole _ _ _ _ _ (Gathers-none _ _)
 
-pub returns-in_ok-print-clause-part : goal.returns-in_ok-print-clause-part
-returns-in_ok-print-clause-part g c =
-    GathersPart-batch _ _ _ (ap length (sym c.bytes-kept.ensures.bytes) ∙ c.if-kept-eq-BATCH_SIZE.true) c.in_ok-print.ensures.part
-
-pub returns-else-kept-eq-BATCH_SIZE-clause-gathers : goal.returns-else-kept-eq-BATCH_SIZE-clause-gathers
-returns-else-kept-eq-BATCH_SIZE-clause-gathers g c = Gathers-none _ _
-
-pub returns-else-kept-eq-BATCH_SIZE-clause-part : goal.returns-else-kept-eq-BATCH_SIZE-clause-part
-returns-else-kept-eq-BATCH_SIZE-clause-part g c = GathersPart-whole _ _ _ _ _ (Gathers-none _ _)
+pub returns-clause-gathers : goal.returns-clause-gathers
+returns-clause-gathers g c =
+    Gathers-whole _ _ _ _ _ c.in_ok-make_room.ensures.gathers c.in_ok-make_room.ensures.bytes
+    (omega (arith, c.if-piece-lt-PIECE_SIZE.false, c.bytes-piece.ensures.room, ap (λ b. length b) c.bytes-piece.ensures.bytes))
+    c.print_piece.ensures.bytes c.print_piece.ensures.lines

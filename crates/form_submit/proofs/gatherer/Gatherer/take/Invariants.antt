@@ -1,5 +1,4 @@
-use Rattle.std.proofs.Common.{length, take, ◌-◌, ◌≤◌, ◌<◌}
-use Rattle.form_submit.specs.Room.{batch_size}
+use Rattle.std.proofs.Common.{length, take, ◌-◌, ◌≤◌}
 use Rattle.form_submit.specs.Sending.{Gathers}
 use Rattle.form_submit.proofs.gatherer.Gatherer.take.Given as goal
 
@@ -8,7 +7,6 @@ abbrev pub invariant-taking : goal.invariant-taking
 invariant-taking g l =
     Gathers (g.K.Sink.written l.initial.sink) (g.K.Sink.written l.sink) l.initial.self (take l.done l.bytes) l.self
     × (l.done ≤ length l.bytes)
-    × (length l.self < batch_size)
     × (g.K.Sink.faults l.initial.sink ≤ g.K.Sink.faults l.sink)
 
 abbrev pub decreases-taking : goal.decreases-taking

@@ -97,12 +97,13 @@ fn is_one_of(tags: &[Tag], tag: Tag) -> bool
 }
 
 impl<'a> Machine<'a> {
-    pub fn new(alloc: Global) -> Machine<'a>
+    /// Nothing is read yet. For so many elements there will be room at once.
+    pub fn new(alloc: Global, room: usize) -> Machine<'a>
         ensures { state_of result ≡ state [] [] }
     {
         Machine {
             stack: Stack::new(alloc),
-            raws: Raws::new(alloc),
+            raws: Raws::new(alloc, room),
         }
     }
 
@@ -304,12 +305,13 @@ impl<'a> Machine<'a> {
         }
     }
 
-    /// Takes characters, which belong to the innermost open element.
-    pub fn add_text(&mut self, chunk: Chunk<'_>) -> Result<(), AllocError>
+    /// Takes characters, which belong to the innermost open element, and what stands behind them in the
+    /// page, which is only looked at.
+    pub fn add_text(&mut self, chunk: Chunk<'_>, rest: &str) -> Result<(), AllocError>
         ensures { OnOk result (state_of self.new
             ≡ state (more_text (chunk_of chunk.entry) (levels_of self.old.stack)) self.old.raws) }
     {
-        self.stack.write(chunk)
+        self.stack.write(chunk, rest)
     }
 
     /// Takes a piece.

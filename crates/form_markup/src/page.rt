@@ -11,14 +11,17 @@ ghost use Rattle.form_tokens.specs.Readers.{Gives};
 ghost use Rattle.form_markup.specs.Machine.{state_of, turn};
 ghost use Rattle.form_markup.specs.Turns.{inside_turn, outside_turn, tag_turn, text_turn};
 
-use crate::PageFault;
 use crate::fault::fault_at;
 use crate::machine::Machine;
 use crate::raws::Raws;
 use crate::reading::tag_of;
+use crate::{MOST_ELEMENTS, PageFault};
 use form_tokens::{Context, Stop, after_byte, begins, chunk_of, closes_textarea};
 use form_tree::{Raw, Tag};
 use std::alloc::Global;
+
+// For an element in so many bytes of a page there is room before it is read.
+const ELEMENT_SIZE: usize = 16;
 
 // Takes the tag, comment or doctype at the front of the text, and gives what stands behind it.
 #[tactic(auto, unfolding(crate::specs::Turns::tag_turn))]
@@ -58,7 +61,7 @@ fn take_text<'a>(
 {
     match chunk_of(context, text) {
         Ok((chunk, rest)) => {
-            machine.add_text(chunk)?;
+            machine.add_text(chunk, rest)?;
             Ok(rest)
         }
         Err(stop) => Err(stop),
@@ -123,7 +126,7 @@ fn read_raws(alloc: Global, text: &str, around: &[Tag]) -> Result<Raws, PageFaul
     ensures read { IsRead around.now text.now result }
     ensures answer { Answers (λ raws. raws) (answer_of around.now text.now) result }
 {
-    let mut machine = Machine::new(alloc);
+    let mut machine = Machine::new(alloc, usize::min(MOST_ELEMENTS, text.len() / ELEMENT_SIZE));
     let mut rest = text;
     'pieces: while !rest.is_empty() {
         match advance(&mut machine, alloc, around, rest) {

@@ -6,10 +6,12 @@ use form_tree::Raw;
 use std::alloc::{AllocError, Global};
 use std::marker::Model;
 
-/// The elements so far, which contracts see as a list.
+/// The elements so far, which contracts see as a list. The first one makes room for as many as are
+/// expected.
 #[derive(Drop)]
 pub struct Raws {
     items: Vec<Raw>,
+    room: usize,
 }
 
 impl Model for Raws {
@@ -22,11 +24,12 @@ impl Model for Raws {
 }
 
 impl Raws {
-    pub fn new(alloc: Global) -> Raws
+    pub fn new(alloc: Global, room: usize) -> Raws
         ensures { result ≡ [] }
     {
         Raws {
             items: Vec::new(alloc),
+            room,
         }
     }
 
@@ -34,7 +37,7 @@ impl Raws {
     pub fn into_vec(self) -> Vec<Raw>
         ensures { result.items ≡ self }
     {
-        let Raws { items } = self;
+        let Raws { items, room: _ } = self;
         items
     }
 
@@ -47,6 +50,9 @@ impl Raws {
     pub fn push(&mut self, raw: Raw) -> Result<(), AllocError>
         ensures { OnOk result (self.new ≡ self.old ++ raw ∷ []) }
     {
+        if self.items.is_empty() {
+            self.items.reserve(self.room)?;
+        }
         self.items.push(raw)?;
         Ok(())
     }

@@ -1,9 +1,10 @@
-ghost use Rattle.std.specs.Prelude.{List, ◌≡◌, [], ◌∷◌, OnOk, MatchOption, reverse, length};
+ghost use Rattle.std.specs.Prelude.{List, ◌≡◌, ◌++◌, [], ◌∷◌, OnOk, MatchOption, reverse, length, string_bytes};
 ghost use Rattle.form_tokens.specs.Characters.{chunk_of};
 ghost use Rattle.form_markup.specs.Machine.{levels_of, more_text};
 
 use crate::machine::Open;
 use form_tokens::Chunk;
+use memchr::memchr;
 use std::alloc::{AllocError, Global};
 use std::marker::Model;
 
@@ -73,8 +74,9 @@ impl<T> Stack<T> {
 }
 
 impl Stack<Open<'_>> {
-    /// Writes characters behind the text of the innermost open element, where one is open.
-    pub fn write(&mut self, chunk: Chunk<'_>) -> Result<(), AllocError>
+    /// Writes characters behind the text of the innermost open element, where one is open. What stands
+    /// behind them in the page is told, so that there is room for what follows.
+    pub fn write(&mut self, chunk: Chunk<'_>, rest: &str) -> Result<(), AllocError>
         ensures { OnOk result
             (levels_of self.new ≡ more_text (chunk_of chunk.entry) (levels_of self.old)) }
     {
@@ -83,6 +85,28 @@ impl Stack<Open<'_>> {
             return Ok(());
         }
         let open = &mut self.items[count - 1];
-        chunk.write(&mut open.text)
+        write_behind(&mut open.text, chunk, rest)
+    }
+}
+
+// Writes characters behind a text. Where it has none yet, room is made for those up to the next tag.
+fn write_behind(text: &mut String, chunk: Chunk<'_>, rest: &str) -> Result<(), AllocError>
+    ensures { OnOk result (string_bytes text.new ≡ string_bytes text.old ++ chunk_of chunk.entry) }
+{
+    if text.is_empty() {
+        text.reserve(room_of(chunk, rest))?;
+    }
+    chunk.write(text)
+}
+
+// How many bytes these characters and those up to the next tag have at most.
+fn room_of(chunk: Chunk<'_>, rest: &str) -> usize {
+    let ahead = match memchr(b'<', rest.as_bytes()) {
+        Some(place) => place,
+        None => rest.len(),
+    };
+    match chunk {
+        Chunk::Run(text) => ahead.saturating_add(text.len()),
+        Chunk::Character(c) => ahead.saturating_add(c.len_utf8()),
     }
 }

@@ -123,17 +123,7 @@ pub same_group : (f : Node → Node) (g h : Key → Bool) (k : Key) (ns : Nodes)
 same_group f g h k [] same = refl
 same_group f g h k (n ∷ ns) same = ap₂ (λ (m : Node) (rest : Nodes). m ∷ rest) (ap (λ (b : Bool). cond (b && not (is_key k n)) (f n) n) (same n.key)) (same_group f g h k ns same)
 
--- ---- all elements
-
-own_among : (ns : Nodes) (i : ℕ) (d : Node) → i < length ns → is_among (keys ns) (get_or ns i d).key ≡ true
-own_among [] i d below = absurd (omega arith)
-own_among (n ∷ ns) zero d below = or_left _ _ (same_key-refl n.key)
-own_among (n ∷ ns) (suc i) d below = or_right _ _ (own_among ns i d (omega arith))
-
-pub all_made : (f : Node → Node) → IsOnce f → (ns : Nodes) → with_each f ns (keys ns) ≡ map f ns
-all_made f once ns =
-    each_made f once ns (keys ns)
-    ∙ all_same (λ n. cond (is_among (keys ns) n.key) (f n) n) f ns (λ i d below. ap (λ (b : Bool). cond b (f (get_or ns i d)) (get_or ns i d)) (own_among ns i d below))
+-- ---- a file that is withdrawn
 
 numbers_again : (file : ℕ) (xs : List ℕ) → filter (λ number. not (number == file)) (filter (λ number. not (number == file)) xs) ≡ filter (λ number. not (number == file)) xs
 numbers_again file [] = refl

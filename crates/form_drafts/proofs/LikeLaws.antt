@@ -1,8 +1,7 @@
 -- Lists of elements that differ in states alone, and the steps along radio buttons.
-use Rattle.std.proofs.Common.{◌≡◌, ℕ, ◌≤◌, ◌++◌, Bool, true, false, cond, List, [], ◌∷◌, length, drop, map, Result, refl, sym, ap, ap₂, ◌∙◌, subst}
-use Rattle.std.specs.List.{filter, fold}
+use Rattle.std.proofs.Common.{◌≡◌, Bool, true, false, cond, List, [], ◌∷◌, map, Result, refl, sym, ap, ap₂, ◌∙◌, subst}
+use Rattle.std.specs.List.{fold}
 use Rattle.std.specs.Result.{OnOk}
-use Rattle.std.proofs.lemmas.List.{append-nil, drop_all}
 use Rattle.std.proofs.lemmas.Result.{on_ok_weaker}
 use Rattle.std.proofs.lemmas.Bool.{cond_both}
 use Rattle.form_tree.proofs.Laws.{KeepsElements, keeps_where, owner_of_map, share_group_map}
@@ -16,7 +15,7 @@ use Rattle.form_page.specs.Page.{Page}
 use Rattle.form_page.specs.Settling.{changed_but, off, with_radio, with_selectedness}
 use Rattle.form_drafts.proofs.Mild.{IsMild, changed_where, through_radio, through_selectedness, through_value}
 use Rattle.form_drafts.proofs.EachLaws.{IsOnce, others_made}
-use Rattle.form_drafts.proofs.SoFarLaws.{frame_group, frame_keys, keys_passing}
+use Rattle.form_drafts.proofs.SoFarLaws.{frame_group}
 use Rattle.form_changes.specs.Changing.{set_checked}
 use Rattle.form_drafts.specs.Drafts.{AreFramed, AreLike, AreOwnedBy, Draft, HaveGroupsOf, HaveOwnersOf, Moved, bare, draft_of, keys_but, with_each}
 use Rattle.form_drafts.specs.Resetting.{reset_input, reset_option, reset_textarea, with_options_reset, with_reset}
@@ -102,14 +101,6 @@ radio_done r draft next k group others lent checked listed left is made =
 -- the group of the page is that of the elements so far
 pub page_group : (draft : Draft) (k : Key) (page : Page) (members : List Key) → HaveGroupsOf draft.nodes draft.page.tree.nodes → AreFramed draft.nodes draft.page.tree.nodes → page ≡ draft.page → members ≡ keys (radio_group page.tree.nodes k) → members ≡ keys (radio_group draft.nodes k)
 page_group draft k page members groups like same listed = listed ∙ ap (λ (p : Page). keys (radio_group p.tree.nodes k)) same ∙ frame_group draft.nodes draft.page.tree.nodes like groups k
-
--- a walk along the elements of the page finds those so far
-pub walked_group : (draft : Draft) (k : Key) (nodes : Nodes) (group : List Key) (i : ℕ) → length nodes ≤ i → AreFramed draft.nodes draft.page.tree.nodes → nodes ≡ draft.page.tree.nodes
-    → group ++ keys (filter (λ n. share_group draft.nodes k n.key) (drop i nodes)) ≡ keys (filter (λ n. share_group draft.nodes k n.key) nodes) → group ≡ keys (radio_group draft.nodes k)
-walked_group draft k nodes group i past like same listed =
-    sym (ap (λ (ns : Nodes). group ++ keys (filter (λ n. share_group draft.nodes k n.key) ns)) (drop_all i nodes past) ∙ append-nil group) ∙ listed
-    ∙ ap (λ (ns : Nodes). keys (filter (λ n. share_group draft.nodes k n.key) ns)) same
-    ∙ keys_passing (share_group draft.nodes k) (share_group draft.nodes k) draft.page.tree.nodes draft.nodes (frame_keys draft.nodes draft.page.tree.nodes like) (λ j. refl)
 
 -- the elements of the next draft are like those of the page too
 pub like_next : (draft next : Draft) (k : Key) → next ≡ record draft { nodes = with_reset draft.nodes k } → AreLike draft.nodes draft.page.tree.nodes → AreLike next.nodes next.page.tree.nodes

@@ -1,10 +1,11 @@
 // What a line asks for.
 ghost use Rattle.std.specs.Prelude.{◌≡◌, None};
+ghost use Rattle.form_page.specs.Invalid.{is_owned_by};
 ghost use Rattle.form_page.specs.Views.{is_seen};
 ghost use Rattle.form_tree.specs.Tree.{at_key};
 ghost use Rattle.form_run.specs.Asking.{asked, asked_by, may_submit_by, own_submission, requested_at, shown_at, submitted_at};
 
-use form_acts::{Act, ActFault, Clicked, click, implicit, is_owned_by, is_submitter};
+use form_acts::{Act, ActFault, Clicked, click, implicit, is_submitter};
 use form_page::Page;
 use form_script::Command;
 use form_text::{Sequence, Text};
@@ -152,4 +153,14 @@ fn is_seen(node: &Node) -> bool
     ensures { result ≡ is_seen node.now }
 {
     node.tag.is_submittable() || node.tag.is_option()
+}
+
+// Whether the form owns the element.
+fn is_owned_by(page: &Page, form: Key, node: &Node) -> bool
+    ensures { result ≡ is_owned_by page.now.tree.nodes form node.now }
+{
+    match page.owner(node.key) {
+        Some(owner) => form.0 == owner.0,
+        None => false,
+    }
 }

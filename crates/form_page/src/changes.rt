@@ -23,11 +23,8 @@ pub fn changed_keys(
 {
     let mut keys = Vec::new(alloc);
     for place in 0..nodes.len() {
-        push_unless(
-            &mut keys,
-            same_sights(&before[place], &after[place]),
-            nodes[place].key,
-        )?;
+        let same = same_sights(&before[place], &after[place]);
+        push_unless(&mut keys, same, nodes[place].key)?;
     }
     Ok(keys)
 }

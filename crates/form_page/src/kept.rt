@@ -35,8 +35,8 @@ pub struct Kept {
     pub sights: Vec<Option<Sight>>,
 }
 
-/// All that is kept of a tree and files, made anew with one judgement of each control. The pattern of
-/// an element is the one that was compiled anew, where there is one, and else the kept one.
+/// All that is kept of a tree and files, made anew with one judgement of each control. An element's
+/// pattern is the one that was compiled anew, where there is one, and else the kept one.
 pub fn kept_of<L: Ledger>(
     alloc: Global,
     tree: &Tree,

@@ -2,8 +2,9 @@
 //! what is seen of each control.
 //!
 //! Contracts see a [`Page`] as its tree and its files. What is kept beside these (the compiled patterns,
-//! the owners, the radio button groups, and what is seen of each element, with the verdict on each
-//! control) equals its definition over them by the page's invariant, and no public clause names it.
+//! the owners, what each form owns, the radio button groups, the elements that have each file, and what
+//! is seen of each element, with the verdict on each control) equals its definition over them by the
+//! page's invariant, and no public clause names it.
 #![tactic(auto)]
 
 mod candidates;

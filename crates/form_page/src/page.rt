@@ -37,10 +37,8 @@ use std::alloc::{AllocError, Global};
 use std::marker::Model;
 use std::sync::ledger::Ledger;
 
-/// A page of forms: its tree, and the files that were handed in. Contracts see these two. What is
-/// kept beside them equals its definition over them: the compiled patterns, the owners, what each form
-/// owns, the radio button groups, the elements that have each file, and what is seen of each element,
-/// with the verdict on each control.
+/// A page of forms: its tree, and the files that were handed in. Contracts see these two. What is kept
+/// beside them equals its definition over them.
 #[derive(Drop)]
 pub struct Page {
     alloc: Global,
@@ -153,13 +151,9 @@ impl Page {
     pub fn members(&self, key: Key) -> &[Key]
         ensures { result.now ≡ map (λ n. n.key) (radio_group self.now.tree.nodes key) }
     {
+        let answers = self.kept.owners.answers();
         match self.tree.node(key) {
-            Some(node) => members_of(
-                &self.tree,
-                self.kept.owners.answers(),
-                &self.kept.groups,
-                node,
-            ),
+            Some(node) => members_of(&self.tree, answers, &self.kept.groups, node),
             None => &[],
         }
     }

@@ -1,13 +1,14 @@
 -- The one answer of a text is what it spells, or its first fault.
-use Rattle.std.proofs.Common.{◌≡◌, ℕ, zero, suc, ◌-◌, ◌<◌, ◌≤◌, List, [], ◌∷◌, Result, Ok, Err, length, refl, sym, ap, ◌∙◌, arith}
+use Rattle.std.proofs.Common.{◌≡◌, ℕ, zero, suc, ◌-◌, ◌<◌, ◌≤◌, List, [], ◌∷◌, Result, Ok, Err, length, refl, sym, ap, subst, ◌∙◌, arith}
 use Rattle.form_tree.specs.declared.node.Raw.{Raw}
 use Rattle.form_tree.specs.declared.node.Tag.{Tag}
-use Rattle.form_markup.specs.Answer.{Answers, answer_of, end_answer, rest_answer, turn_answer}
+use Rattle.form_markup.specs.Answer.{Answering, Answers, answer_of, end_answer, rest_answer, turn_answer}
 use Rattle.form_tokens.specs.Readers.{Fails}
 use Rattle.form_markup.specs.Machine.{Level, State, turn}
 use Rattle.form_markup.specs.Spelling.{IsRead, page_fault}
 use Rattle.form_tokens.specs.declared.fault.Fault.{Fault}
 use Rattle.form_tokens.specs.declared.fault.Fault.TheVariants as faults
+use Rattle.form_markup.specs.declared.fault.PageFault.{PageFault}
 use Rattle.form_markup.specs.declared.fault.PageFault.TheVariants as pages
 use Rattle.form_tokens.specs.declared.fault.Stop.{Stop}
 use Rattle.form_tokens.specs.declared.fault.Stop.TheVariants as stops
@@ -57,12 +58,6 @@ pub answer_never : (around : List Tag) (text : List ℕ) → answer_of around te
 unfolding answer_of
 answer_never around text = rest_never (length text) around (length text) fresh text
 
--- the answer of the rest is that of the text
-pub record Answering (around : List Tag) (text : List ℕ) (m : State) (rest : List ℕ) : Type 0 where
-  pub fuel : ℕ
-  pub enough : length rest ≤ fuel
-  pub same : rest_answer fuel around (length text) m rest ≡ answer_of around text
-
 pub answer_begun : (around : List Tag) (text : List ℕ) → Answering around text fresh text
 unfolding answer_of
 answer_begun around text = record { fuel = length text; enough = omega arith; same = refl }
@@ -109,3 +104,13 @@ answer_closed around text rest m a e none = answer_end around text rest m a e �
     go : (os : List Level) → length os ≡ 0 → end_answer (length text) os m.raws ≡ Ok m.raws
     go [] l = refl
     go (o ∷ os) l = absurd (omega arith)
+
+-- what a call gave is what the text spells, or its first fault
+pub answers_read : (around : List Tag) (text : List ℕ) (result : Result (List Raw) PageFault) → Answers {X = List Raw} (λ raws. raws) (answer_of around text) result → IsRead around text result
+answers_read around text (Ok raws) h = subst (IsRead around text) h (answer_read around text)
+answers_read around text (Err pages.Memory) h = tt
+answers_read around text (Err (pages.Lexical place)) h = subst (IsRead around text) h (answer_read around text)
+answers_read around text (Err (pages.Limit place)) h = subst (IsRead around text) h (answer_read around text)
+answers_read around text (Err (pages.Element place)) h = subst (IsRead around text) h (answer_read around text)
+answers_read around text (Err (pages.Email place)) h = subst (IsRead around text) h (answer_read around text)
+answers_read around text (Err (pages.Nesting place)) h = subst (IsRead around text) h (answer_read around text)

@@ -13,3 +13,5 @@ pub mod Texts
 pub mod AnswerLaws
 pub mod Words
 pub mod Turns
+pub mod Goes
+pub mod Narrow

@@ -1,5 +1,5 @@
 -- The open elements, and an element's text.
-use Rattle.std.proofs.Common.{◌≡◌, ℕ, zero, suc, ◌+◌, ◌<◌, ◌≤◌, List, [], ◌∷◌, ◌++◌, length, get_or, set, map, reverse, Bool, true, false, ◌||◌, refl, sym, ap, ◌∙◌, arith}
+use Rattle.std.proofs.Common.{◌≡◌, ℕ, zero, suc, ◌+◌, ◌<◌, ◌≤◌, List, [], ◌∷◌, ◌++◌, length, get_or, set, map, reverse, Bool, true, false, ◌||◌, refl, sym, ap, ◌∙◌, append_assoc, append-nil, arith}
 use Rattle.std.specs.List.{list_any}
 use Rattle.std.proofs.lemmas.List.{length-reverse, map-append, reverse-append}
 use Rattle.std.proofs.lemmas.List.Folds.{list_any-append}
@@ -63,3 +63,16 @@ more_last bytes (x ∷ xs) (suc n) o new lt le e m =
     ∙ (ap (λ (s : List Level). s ++ (level_of x ∷ [])) (more_last bytes xs n o new (omega arith) (omega arith) e m)
     ∙ (more_front bytes (levels_of (reverse xs)) (level_of x) some
     ∙ ap (more_text bytes) (sym (map-append level_of (reverse xs) (x ∷ [])) ∙ sym (ap levels_of (reverse-append (x ∷ []) xs))))))
+
+-- no more text, and more text twice
+pub more_none : (s : List Level) → more_text [] s ≡ s
+more_none [] = refl
+more_none (o ∷ os) = ap (λ (t : List ℕ). (let l : Level = record { place = o.place; tag = o.tag; name = o.name; text = t } in l) ∷ os) (append-nil o.text)
+
+pub more_twice : (xs ys : List ℕ) (s : List Level) → more_text ys (more_text xs s) ≡ more_text (xs ++ ys) s
+more_twice xs ys [] = refl
+more_twice xs ys (o ∷ os) = ap (λ (t : List ℕ). (let l : Level = record { place = o.place; tag = o.tag; name = o.name; text = t } in l) ∷ os) (append_assoc o.text xs ys)
+
+pub outers_more : (xs : List ℕ) (s : List Level) → outers_of (more_text xs s) ≡ outers_of s
+outers_more xs [] = refl
+outers_more xs (o ∷ os) = refl

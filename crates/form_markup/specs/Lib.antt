@@ -8,3 +8,4 @@ pub mod Machine
 pub mod Turns
 pub mod Limits
 pub mod Answer
+pub mod Narrow

@@ -1,5 +1,5 @@
 // What the reader has read, and which fault the next piece has.
-ghost use Rattle.std.specs.Prelude.{◌≡◌, [], ◌∷◌, ◌||◌, ◌&&◌, List, reverse, length, OnOk, Some, None, MatchOption, not};
+ghost use Rattle.std.specs.Prelude.{◌≡◌, [], ◌∷◌, ◌||◌, ◌&&◌, ℕ, List, reverse, length, IfErr, IfOk, IsUtf8, OnOk, Some, None, MatchOption, not};
 ghost use Rattle.std.specs.List.{list_any};
 ghost use Rattle.std.specs.Option.{option_copied, option_map};
 ghost use Rattle.form_tree.specs.Tree.{attr_in};
@@ -9,8 +9,9 @@ ghost use Rattle.form_markup.specs.Contents.{Piece};
 ghost use Rattle.form_markup.specs.Faults.{element_fault, end_fault, fault_of, is_child_of, is_email, is_in_itself, is_inside, is_misplaced, is_odd_in_optgroup, is_odd_in_select, is_over_limit, is_stray_optgroup, is_stray_option, is_tag};
 ghost use Rattle.form_markup.specs.Names.{tag_named};
 ghost use Rattle.form_markup.specs.Pieces.{is_in_textarea};
+ghost use Rattle.form_markup.specs.Narrow.{is_narrow, is_odd_in_narrow};
 ghost use Rattle.form_markup.specs.Machine.{after, closed, levels_of, more_text, outers_in, parent_of, piece_of, round_of, state, state_of, tagged_of, with_raw};
-ghost use Rattle.form_tokens.specs.Characters.{chunk_of};
+ghost use Rattle.form_tokens.specs.Characters.{HaltsIn, IsReadTo, joined};
 
 use crate::names::{is_refused, is_textarea, tag_named};
 use crate::piece::{Found, Head};
@@ -18,7 +19,7 @@ use crate::raws::Raws;
 use crate::stack::Stack;
 use crate::{MOST_DEPTH, MOST_ELEMENTS};
 use form_text::{Sequence, Text, eq_ascii_case};
-use form_tokens::{Chunk, Fault};
+use form_tokens::{Context, Fault, Halt};
 use form_tree::{Raw, Tag};
 use std::alloc::{AllocError, Global};
 
@@ -76,6 +77,25 @@ fn has_tag(stack: &[Open<'_>], wanted: Tag) -> bool
     stack.iter().any(|o| o.tag == wanted)
 }
 
+// Whether the elements inside one of the tag are restricted, at any depth.
+fn is_narrow(tag: Tag) -> bool
+    ensures { result ≡ is_narrow tag }
+{
+    tag == Tag::Select || tag == Tag::Optgroup || tag == Tag::Choice
+}
+
+fn has_narrow(stack: &[Open<'_>]) -> bool
+    ensures { result ≡ list_any (λ o. is_narrow o.tag) stack.now }
+{
+    stack.iter().any(|o| is_narrow(o.tag))
+}
+
+fn is_narrow_listed(tags: &[Tag]) -> bool
+    ensures { result ≡ list_any is_narrow tags.now }
+{
+    tags.iter().any(|tag| is_narrow(*tag))
+}
+
 fn is_listed(tags: &[Tag], wanted: Tag) -> bool
     ensures { result ≡ list_any (is_tag wanted) tags.now }
 {
@@ -122,6 +142,14 @@ impl<'a> Machine<'a> {
         ensures { result ≡ is_inside wanted (round_of around.now self.now) }
     {
         has_tag(self.stack.as_slice(), wanted) || is_listed(around, wanted)
+    }
+
+    // Whether an element is open, in the text or round it, inside which elements are restricted. Most have
+    // none, so that this is all that is asked of the open elements.
+    fn is_inside_narrow(&self, around: &[Tag]) -> bool
+        ensures { result ≡ list_any is_narrow (round_of around.now self.now) }
+    {
+        has_narrow(self.stack.as_slice()) || is_narrow_listed(around)
     }
 
     // Whether the parent of the next element has one of the tags.
@@ -177,12 +205,12 @@ impl<'a> Machine<'a> {
         tag == Tag::Optgroup && !self.is_child_of(around, &[Tag::Select])
     }
 
-    // Whether an element of the tag and name may not stand here.
-    fn is_misplaced(&self, around: &[Tag], tag: Tag, name: &str) -> bool
-        ensures { result ≡ is_misplaced tag name.now (round_of around.now self.now) }
+    #[tactic(auto, using(crate::proofs::Narrow::none_odd))]
+    fn is_odd_in_narrow(&self, around: &[Tag], tag: Tag, name: &str) -> bool
+        ensures { result ≡ is_odd_in_narrow tag name.now (round_of around.now self.now) }
     {
-        if self.is_in_itself(around, tag) {
-            return true;
+        if !self.is_inside_narrow(around) {
+            return false;
         }
         if self.is_odd_in_select(around, tag, name) {
             return true;
@@ -190,7 +218,18 @@ impl<'a> Machine<'a> {
         if self.is_odd_in_optgroup(around, tag) {
             return true;
         }
-        if self.is_inside(around, Tag::Choice) {
+        self.is_inside(around, Tag::Choice)
+    }
+
+    // Whether an element of the tag and name may not stand here.
+    #[tactic(auto, using(crate::proofs::Narrow::misplaced_is))]
+    fn is_misplaced(&self, around: &[Tag], tag: Tag, name: &str) -> bool
+        ensures { result ≡ is_misplaced tag name.now (round_of around.now self.now) }
+    {
+        if self.is_in_itself(around, tag) {
+            return true;
+        }
+        if self.is_odd_in_narrow(around, tag, name) {
             return true;
         }
         if self.is_stray_option(around, tag) {
@@ -305,13 +344,22 @@ impl<'a> Machine<'a> {
         }
     }
 
-    /// Takes characters, which belong to the innermost open element, and what stands behind them in the
-    /// page, which is only looked at.
-    pub fn add_text(&mut self, chunk: Chunk<'_>, rest: &str) -> Result<(), AllocError>
-        ensures { OnOk result (state_of self.new
-            ≡ state (more_text (chunk_of chunk.entry) (levels_of self.old.stack)) self.old.raws) }
+    /// Takes the characters at the front of a text, which belong to the innermost open element, and gives
+    /// what stands behind them.
+    pub fn add_text<'b>(
+        &mut self,
+        alloc: Global,
+        context: Context,
+        text: &'b str,
+    ) -> Result<&'b str, Halt>
+        ensures value { IfOk result (λ rest. (chunks : List (List ℕ))
+            × IsReadTo context chunks text.now rest.now
+            × (state_of self.new
+            ≡ state (more_text (joined chunks) (levels_of self.old.stack)) self.old.raws)) }
+        ensures utf8 { IfOk result (λ rest. IsUtf8 rest.now) }
+        ensures halt { IfErr result (λ halt. HaltsIn context text.now halt) }
     {
-        self.stack.write(chunk, rest)
+        self.stack.write(alloc, context, text)
     }
 
     /// Takes a piece.

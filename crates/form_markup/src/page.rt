@@ -1,22 +1,23 @@
-ghost use Rattle.std.specs.Prelude.{◌≡◌, ◌<◌, ℕ, List, [], Err, IfOk, IfErr, IsUtf8};
+ghost use Rattle.std.specs.Prelude.{◌≡◌, ◌<◌, ℕ, List, [], Err, IfOk, IfErr, IsUtf8, Ok, false, length, true};
 ghost use Rattle.form_markup.specs.declared.fault.PageFault.TheVariants.{Memory};
 ghost use Rattle.form_tree.specs.declared.node.Raw.{Raw};
 ghost use Rattle.form_tree.specs.declared.node.Tag.{Tag};
 ghost use Rattle.form_tokens.specs.declared.fault.Fault.{Fault};
 ghost use Rattle.form_markup.specs.Spelling.{GivesRaws, IsFault, IsPageFault, IsRead, Spells};
 ghost use Rattle.form_tree.specs.Tree.{IsTreeOfRaws};
-ghost use Rattle.form_markup.specs.Answer.{Answers, answer_of};
+ghost use Rattle.form_markup.specs.Answer.{Answers, GoesTo, HaltsWith, answer_of};
 ghost use Rattle.form_markup.specs.Limits.{HoldsNoEmail, IsWithinLimits};
-ghost use Rattle.form_tokens.specs.Readers.{Gives};
-ghost use Rattle.form_markup.specs.Machine.{state_of, turn};
-ghost use Rattle.form_markup.specs.Turns.{inside_turn, outside_turn, tag_turn, text_turn};
+ghost use Rattle.form_tokens.specs.Readers.{Fails, Gives};
+ghost use Rattle.form_markup.specs.Machine.{outers_in, state_of};
+ghost use Rattle.form_markup.specs.Pieces.{is_in_textarea};
+ghost use Rattle.form_markup.specs.Turns.{tag_turn};
 
 use crate::fault::fault_at;
 use crate::machine::Machine;
 use crate::raws::Raws;
 use crate::reading::tag_of;
 use crate::{MOST_ELEMENTS, PageFault};
-use form_tokens::{Context, Stop, after_byte, begins, chunk_of, closes_textarea};
+use form_tokens::{Context, Halt, Stop, after_byte, begins, closes_textarea};
 use form_tree::{Raw, Tag};
 use std::alloc::Global;
 
@@ -48,72 +49,82 @@ fn take_tag<'a>(
     }
 }
 
-// Takes the characters or the reference at the front of the text, and gives what stands behind.
-#[tactic(auto, unfolding(crate::specs::Turns::text_turn))]
-fn take_text<'a>(
-    machine: &mut Machine<'_>,
-    context: Context,
+// The same, where an error says how many bytes are left.
+fn advance_tag<'a>(
+    machine: &mut Machine<'a>,
+    alloc: Global,
+    around: &[Tag],
     text: &'a str,
-) -> Result<&'a str, Stop>
-    ensures turn { Gives (λ rest. (state_of machine.new, rest.now)) result
-        (text_turn context (state_of machine.old) text.now) }
+) -> Result<&'a str, Halt>
+    ensures goes { IfOk result (λ rest.
+        tag_turn around.now (state_of machine.old) text.now ≡ Ok (state_of machine.new, rest.now)) }
     ensures utf8 { IfOk result (λ rest. IsUtf8 rest.now) }
+    ensures halts { IfErr result (λ halt. (halt.left ≡ length text.now)
+        × Fails halt.stop (tag_turn around.now (state_of machine.old) text.now)) }
 {
-    match chunk_of(context, text) {
-        Ok((chunk, rest)) => {
-            machine.add_text(chunk, rest)?;
-            Ok(rest)
-        }
-        Err(stop) => Err(stop),
+    match take_tag(machine, alloc, around, text) {
+        Ok(rest) => Ok(rest),
+        Err(stop) => Err(Halt {
+            stop,
+            left: text.len(),
+        }),
     }
 }
 
-// Takes the piece at the front of the text where no textarea is open.
+// Takes the tag or all characters at the front of the text where no textarea is open.
 fn advance_outside<'a>(
     machine: &mut Machine<'a>,
     alloc: Global,
     around: &[Tag],
     text: &'a str,
-) -> Result<&'a str, Stop>
-    ensures turn { Gives (λ rest. (state_of machine.new, rest.now)) result
-        (outside_turn around.now (state_of machine.old) text.now) }
+) -> Result<&'a str, Halt>
+    requires some { 0 < length text.now }
+    requires outside { is_in_textarea (outers_in machine.old) ≡ false }
+    ensures goes { IfOk result (λ rest.
+        GoesTo around.now (state_of machine.old) text.now (state_of machine.new) rest.now) }
     ensures utf8 { IfOk result (λ rest. IsUtf8 rest.now) }
+    ensures halts { IfErr result (λ halt. HaltsWith around.now (state_of machine.old) text.now halt) }
 {
     if begins(text, b'<') {
-        take_tag(machine, alloc, around, text)
+        advance_tag(machine, alloc, around, text)
     } else {
-        take_text(machine, Context::Content, text)
+        machine.add_text(alloc, Context::Content, text)
     }
 }
 
-// Takes the piece at the front of a textarea's text.
+// Takes the end tag or all characters at the front of a textarea's text.
 fn advance_inside<'a>(
     machine: &mut Machine<'a>,
     alloc: Global,
     around: &[Tag],
     text: &'a str,
-) -> Result<&'a str, Stop>
-    ensures turn { Gives (λ rest. (state_of machine.new, rest.now)) result
-        (inside_turn around.now (state_of machine.old) text.now) }
+) -> Result<&'a str, Halt>
+    requires some { 0 < length text.now }
+    requires inside { is_in_textarea (outers_in machine.old) ≡ true }
+    ensures goes { IfOk result (λ rest.
+        GoesTo around.now (state_of machine.old) text.now (state_of machine.new) rest.now) }
     ensures utf8 { IfOk result (λ rest. IsUtf8 rest.now) }
+    ensures halts { IfErr result (λ halt. HaltsWith around.now (state_of machine.old) text.now halt) }
 {
     if closes_textarea(text.as_bytes()) {
-        take_tag(machine, alloc, around, text)
+        advance_tag(machine, alloc, around, text)
     } else {
-        take_text(machine, Context::Textarea, text)
+        machine.add_text(alloc, Context::Textarea, text)
     }
 }
 
-// Takes the piece at the front of the text, and gives what stands behind it.
+// Takes the tag or all characters at the front of the text, and gives what stands behind them.
 fn advance<'a>(
     machine: &mut Machine<'a>,
     alloc: Global,
     around: &[Tag],
     text: &'a str,
-) -> Result<&'a str, Stop>
-    ensures turn { Gives (λ rest. (state_of machine.new, rest.now)) result
-        (turn around.now (state_of machine.old) text.now) }
+) -> Result<&'a str, Halt>
+    requires { 0 < length text.now }
+    ensures goes { IfOk result (λ rest.
+        GoesTo around.now (state_of machine.old) text.now (state_of machine.new) rest.now) }
     ensures utf8 { IfOk result (λ rest. IsUtf8 rest.now) }
+    ensures halts { IfErr result (λ halt. HaltsWith around.now (state_of machine.old) text.now halt) }
 {
     if machine.is_in_textarea() {
         advance_inside(machine, alloc, around, text)
@@ -123,8 +134,7 @@ fn advance<'a>(
 }
 
 fn read_raws(alloc: Global, text: &str, around: &[Tag]) -> Result<Raws, PageFault>
-    ensures read { IsRead around.now text.now result }
-    ensures answer { Answers (λ raws. raws) (answer_of around.now text.now) result }
+    ensures { Answers (λ raws. raws) (answer_of around.now text.now) result }
 {
     let mut machine = Machine::new(alloc, usize::min(MOST_ELEMENTS, text.len() / ELEMENT_SIZE));
     let mut rest = text;
@@ -133,8 +143,8 @@ fn read_raws(alloc: Global, text: &str, around: &[Tag]) -> Result<Raws, PageFaul
             Ok(after) => {
                 rest = after;
             }
-            Err(stop) => {
-                return Err(fault_at(stop, text.len() - rest.len()));
+            Err(halt) => {
+                return Err(fault_at(halt.stop, text.len().saturating_sub(halt.left)));
             }
         }
     }

@@ -1,10 +1,9 @@
-ghost use Rattle.std.specs.Prelude.{List, ◌≡◌, ◌++◌, [], ◌∷◌, OnOk, MatchOption, reverse, length, string_bytes};
-ghost use Rattle.form_tokens.specs.Characters.{chunk_of};
+ghost use Rattle.std.specs.Prelude.{List, ℕ, ◌≡◌, [], ◌∷◌, IfErr, IfOk, IsUtf8, OnOk, MatchOption, reverse, length};
+ghost use Rattle.form_tokens.specs.Characters.{HaltsIn, IsReadTo, joined};
 ghost use Rattle.form_markup.specs.Machine.{levels_of, more_text};
 
 use crate::machine::Open;
-use form_tokens::Chunk;
-use memchr::memchr;
+use form_tokens::{Context, Halt, write_text};
 use std::alloc::{AllocError, Global};
 use std::marker::Model;
 
@@ -74,39 +73,27 @@ impl<T> Stack<T> {
 }
 
 impl Stack<Open<'_>> {
-    /// Writes characters behind the text of the innermost open element, where one is open. What stands
-    /// behind them in the page is told, so that there is room for what follows.
-    pub fn write(&mut self, chunk: Chunk<'_>, rest: &str) -> Result<(), AllocError>
-        ensures { OnOk result
-            (levels_of self.new ≡ more_text (chunk_of chunk.entry) (levels_of self.old)) }
+    /// Writes the characters at the front of a text behind the text of the innermost open element, where
+    /// one is open, and gives what stands behind them.
+    pub fn write<'a>(
+        &mut self,
+        alloc: Global,
+        context: Context,
+        text: &'a str,
+    ) -> Result<&'a str, Halt>
+        ensures value { IfOk result (λ rest. (chunks : List (List ℕ))
+            × IsReadTo context chunks text.now rest.now
+            × (levels_of self.new ≡ more_text (joined chunks) (levels_of self.old))) }
+        ensures utf8 { IfOk result (λ rest. IsUtf8 rest.now) }
+        ensures halt { IfErr result (λ halt. HaltsIn context text.now halt) }
     {
         let count = self.items.len();
         if count == 0 {
-            return Ok(());
+            // What stands round all elements belongs to none.
+            let mut out = String::new(alloc);
+            return write_text(&mut out, context, text);
         }
         let open = &mut self.items[count - 1];
-        write_behind(&mut open.text, chunk, rest)
-    }
-}
-
-// Writes characters behind a text. Where it has none yet, room is made for those up to the next tag.
-fn write_behind(text: &mut String, chunk: Chunk<'_>, rest: &str) -> Result<(), AllocError>
-    ensures { OnOk result (string_bytes text.new ≡ string_bytes text.old ++ chunk_of chunk.entry) }
-{
-    if text.is_empty() {
-        text.reserve(room_of(chunk, rest))?;
-    }
-    chunk.write(text)
-}
-
-// How many bytes these characters and those up to the next tag have at most.
-fn room_of(chunk: Chunk<'_>, rest: &str) -> usize {
-    let ahead = match memchr(b'<', rest.as_bytes()) {
-        Some(place) => place,
-        None => rest.len(),
-    };
-    match chunk {
-        Chunk::Run(text) => ahead.saturating_add(text.len()),
-        Chunk::Character(c) => ahead.saturating_add(c.len_utf8()),
+        write_text(&mut open.text, context, text)
     }
 }

@@ -26,3 +26,18 @@ no_solidus (a ∷ b ∷ rest) h = go (str_eq_ignore_ascii_case (take 10 (a ∷ b
         let same : map to_ascii_lowercase (a ∷ b ∷ take 8 rest) ≡ map to_ascii_lowercase (codes "</textarea") = bytes_same _ _ is in
         let second : to_ascii_lowercase b ≡ 47 = ap (λ (xs : List ℕ). get_or xs 1 0) same in
         absurd (h (lower_solidus b second))
+
+lower_angle : (b : ℕ) → to_ascii_lowercase b ≡ 60 → b ≡ 60
+lower_angle b e = grind (arith, nat_tests)
+
+-- an end tag has `<` in the first place
+pub no_angle : (b : ℕ) (bs : List ℕ) → b ≢ 60 → closes_textarea (b ∷ bs) ≡ false
+unfolding closes_textarea
+no_angle b bs h = go (str_eq_ignore_ascii_case (take 10 (b ∷ bs)) (codes "</textarea")) refl
+  where
+    go : (t : Bool) → str_eq_ignore_ascii_case (take 10 (b ∷ bs)) (codes "</textarea") ≡ t → (t && begins_so ends_name (drop 10 (b ∷ bs))) ≡ false
+    go false is = refl
+    go true is =
+        let same : map to_ascii_lowercase (b ∷ take 9 bs) ≡ map to_ascii_lowercase (codes "</textarea") = bytes_same _ _ is in
+        let first : to_ascii_lowercase b ≡ 60 = ap (λ (xs : List ℕ). get_or xs 0 0) same in
+        absurd (h (lower_angle b first))

@@ -1,4 +1,5 @@
 -- What crates above cite.
+pub use Rattle.form_tokens.proofs.Chunks.{chunk_shorter}
 pub use Rattle.form_tokens.proofs.Boundaries.{after_first, before_stop}
 pub use Rattle.form_tokens.proofs.Kept.{Attr, IsKept, kept_is}
 pub use Rattle.form_tokens.proofs.Numbers.{front_before}

@@ -7,3 +7,6 @@ pub mod Texts
 pub mod Frequent
 pub mod Angles
 pub mod Laws
+pub mod Chunks
+pub mod Behind
+pub mod Parts

@@ -1,11 +1,12 @@
 -- Runs of digits are numerals, and the first byte of a kind ends a run.
-use Rattle.std.proofs.Common.{◌≡◌, ℕ, zero, suc, ◌+◌, ◌<◌, ◌≤◌, List, [], ◌∷◌, take, drop, length, length-take, slice_index, nat_lt, Result, Ok, Err, if◌then◌else◌, Bool, true, false, not, cond, refl, sym, ap, subst, arith}
+use Rattle.std.proofs.Common.{◌≡◌, ℕ, zero, suc, ◌+◌, ◌<◌, ◌≤◌, List, [], ◌∷◌, take, drop, length, length-take, slice_index, nat_lt, Result, Ok, Err, if◌then◌else◌, Bool, true, false, not, cond, ◌==◌, ◌||◌, ◌∙◌, refl, sym, ap, subst, arith}
 use Rattle.std.specs.Char.{digit_value}
 use Rattle.std.specs.List.{prefix_len}
 use Rattle.std.specs.Str.Parse.{AllDigits, IsNumeral}
 use Rattle.std.proofs.lemmas.Bool.{ltb-true}
 use Rattle.std.proofs.lemmas.List.Sums.{prefix_len-le-length}
 use Rattle.std.proofs.lemmas.Bool.Decides.{nat_tests}
+use Rattle.form_tokens.specs.Characters.{is_other}
 use Rattle.form_tokens.specs.Runs.{in_class, run_at, run_len}
 use Rattle.form_tokens.specs.declared.fault.Fault.{Fault}
 use Rattle.form_tokens.specs.declared.fault.Fault.TheVariants.{Lexical}
@@ -48,3 +49,17 @@ run_numeral radix class low text digits rest e = go (nat_lt 0 (run_len class tex
         subst (IsNumeral radix) (ap (λ (x : List ℕ × List ℕ). x.0) pair)
         (omega (arith, length-take (run_len class text) text, ltb-true 0 (run_len class text) i, prefix_len-le-length (in_class class) text), all_digits radix (in_class class) low text)
     go false i h = absurd (cc)
+
+-- before the quote, and there before U+0000
+pub quoted_both : (quote : ℕ) (xs : List ℕ) → prefix_len (is_other 0) (take (prefix_len (is_other quote) xs) xs) ≡ run_len (classes.Quoted quote) xs
+quoted_both quote [] = refl
+quoted_both quote (x ∷ xs) = go (x == quote) (x == 0) refl (quoted_both quote xs)
+  where
+    go : (q z : Bool) → x == 0 ≡ z → prefix_len (is_other 0) (take (prefix_len (is_other quote) xs) xs) ≡ run_len (classes.Quoted quote) xs
+        → prefix_len (is_other 0) (take (cond (not q) (1 + prefix_len (is_other quote) xs) 0) (x ∷ xs)) ≡ cond (not (q || z)) (1 + run_len (classes.Quoted quote) xs) 0
+    go true z e h = refl
+    go false z e h =
+        let n : ℕ = prefix_len (is_other quote) xs in
+        let more : suc n ≡ 1 + n = omega arith in
+        subst (λ k. prefix_len (is_other 0) (take k (x ∷ xs)) ≡ cond (not z) (1 + run_len (classes.Quoted quote) xs) 0) more
+        (ap (λ t. cond (not t) (1 + prefix_len (is_other 0) (take n xs)) 0) e ∙ ap (λ k. cond (not z) (1 + k) 0) h)

@@ -1,17 +1,20 @@
 -- Characters as they are written, and references, decoded.
 use Rattle.std.specs.Char.{encode_utf8}
-use Rattle.std.specs.Prelude.{Bool, Err, List, Ok, Result, [], codes, drop, false, if◌then◌else◌, length, nat_lt, not, suc, take, true, ℕ, ◌&&◌, ◌++◌, ◌==◌, ◌||◌, ◌∷◌}
+use Rattle.std.specs.Prelude.{Bool, Err, List, Ok, Result, [], codes, drop, false, if◌then◌else◌, length, nat_lt, not, suc, take, true, zero, ℕ, ◌&&◌, ◌++◌, ◌==◌, ◌||◌, ◌<◌, ◌≡◌, ◌≤◌, ◌⊎◌, ◌∷◌}
 use Rattle.std.specs.Str.{str_eq_ignore_ascii_case}
 use Rattle.form_tokens.specs.Bytes.{ampersand, greater_than, less_than, solidus}
 use Rattle.form_tokens.specs.Readers.{many, ◌>>=◌}
 use Rattle.form_tokens.specs.References.{begins_reference, reference_at}
-use Rattle.form_tokens.specs.Runs.{begins_so, behind, is_space}
+use Rattle.form_tokens.specs.Runs.{begins, begins_so, behind, is_space}
 use Rattle.form_tokens.specs.declared.chunk.Chunk.TheVariants as chunks
 use Rattle.form_tokens.specs.declared.chunk.Chunk.{Chunk}
 use Rattle.form_tokens.specs.declared.chunk.Context.TheVariants as contexts
 use Rattle.form_tokens.specs.declared.chunk.Context.{Context}
 use Rattle.form_tokens.specs.declared.fault.Fault.TheVariants.{Lexical}
 use Rattle.form_tokens.specs.declared.fault.Fault.{Fault}
+use Rattle.form_tokens.specs.declared.fault.Halt.{Halt}
+use Rattle.form_tokens.specs.declared.fault.Stop.TheVariants as stops
+use Rattle.form_tokens.specs.declared.fault.Stop.{Stop}
 
 -- whitespace, `/` or `>`
 abbrev pub ends_name : ℕ → Bool
@@ -37,6 +40,10 @@ begins_shown place (b ∷ bs) =
     if b == ampersand then not (begins_reference bs)
     else (if b == less_than then is_shown_angle place (b ∷ bs) else not (b == 0))
 
+-- no character that needs no further look stands at the front
+abbrev pub ends_run : Context → List ℕ → Bool
+ends_run place text = begins ampersand text || not (begins_shown place text)
+
 -- how many bytes of such characters stand at the front
 abbrev pub shown_len : Context → List ℕ → ℕ
 shown_len place [] = 0
@@ -59,9 +66,15 @@ chunk_at place text =
     if is_reference text then (behind ampersand text >>= reference_at >>= λ x. Ok (encode_utf8 x.0, x.1))
     else shown_at place text
 
--- a byte that is neither `<` nor `&` nor U+0000
-abbrev pub is_plain : ℕ → Bool
-is_plain b = not ((b == less_than) || (b == ampersand) || (b == 0))
+-- another byte than this
+abbrev pub is_other : ℕ → ℕ → Bool
+is_other byte b = not (b == byte)
+
+-- so many bytes stand at the front that are characters, or `&`
+abbrev pub IsClear : Context → ℕ → List ℕ → Type 0
+IsClear place zero text = Unit {0}
+IsClear place (suc n) [] = ⊥
+IsClear place (suc n) (b ∷ bs) = ((b == ampersand || begins_shown place (b ∷ bs)) ≡ true) × IsClear place n bs
 
 abbrev pub is_some_text : List ℕ → Bool
 is_some_text text = nat_lt 0 (length text)
@@ -73,6 +86,40 @@ joined (x ∷ xs) = x ++ joined xs
 -- the value of an attribute, decoded; a bad reference is a fault
 unfoldable pub decoded : List ℕ → Result (List ℕ) Fault
 decoded text = many (chunk_at contexts.Value) is_some_text (length text) text >>= λ x. Ok (joined x.0)
+
+-- there are more characters: up to the next tag, to the end tag of the textarea, or to the end of the value
+abbrev pub goes_on : Context → List ℕ → Bool
+goes_on contexts.Content text = is_some_text text && not (begins less_than text)
+goes_on contexts.Textarea text = is_some_text text && not (closes_textarea text)
+goes_on contexts.Value text = is_some_text text
+
+-- The chunks stand one after another at the front of the text, and the rest behind them.
+abbrev pub AreChunks : Context → List (List ℕ) → List ℕ → List ℕ → Type 0
+AreChunks place [] text rest = text ≡ rest
+AreChunks place (chunk ∷ chunks) text rest =
+    (between : List ℕ) × (goes_on place text ≡ true) × (chunk_at place text ≡ Ok (chunk, between))
+    × AreChunks place chunks between rest
+
+-- These bytes stand at the front, and the rest behind them: some of the characters there, or the one of a reference.
+abbrev pub IsPart : Context → List ℕ → List ℕ → List ℕ → Type 0
+IsPart place text bytes rest =
+    ((k : ℕ) × (0 < k) × (k ≤ shown_len place text) × (bytes ≡ take k text) × (rest ≡ drop k text))
+    ⊎ (chunk_at place text ≡ Ok (bytes, rest))
+
+-- All characters and references at the front of the text are read, and the rest stands behind them.
+abbrev pub IsReadTo : Context → List (List ℕ) → List ℕ → List ℕ → Type 0
+IsReadTo place chunks text rest = AreChunks place chunks text rest × (goes_on place rest ≡ false)
+
+-- Behind some chunks, with so many bytes left, there is a fault; of memory nothing is said.
+abbrev pub HaltsAt : Context → List ℕ → ℕ → Stop → Type 0
+HaltsAt place text left stops.Memory = Unit {0}
+HaltsAt place text left (stops.At kind) =
+    (chunks : List (List ℕ)) × (rest : List ℕ) × AreChunks place chunks text rest × (goes_on place rest ≡ true)
+    × (left ≡ length rest) × (chunk_at place rest ≡ Err kind)
+
+-- Reading halted there.
+abbrev pub HaltsIn : Context → List ℕ → Halt → Type 0
+HaltsIn place text halt = HaltsAt place text halt.left halt.stop
 
 abbrev pub chunk_of : Chunk → List ℕ
 chunk_of (chunks.Run text) = text.now

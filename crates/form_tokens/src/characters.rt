@@ -1,22 +1,27 @@
 // Characters as they are written, and references.
-ghost use Rattle.std.specs.Prelude.{◌≡◌, ◌==◌, ◌≤◌, ◌+◌, ◌&&◌, ◌||◌, drop, length, false, IfOk, IsUtf8, MatchOption, Ok};
+ghost use Rattle.std.specs.Prelude.{◌≡◌, ◌≤◌, ◌+◌, ◌++◌, ◌∷◌, ℕ, List, drop, length, min, string_bytes, false, true, IfErr, IfOk, IsUtf8, MatchOption, Ok, OnOk};
 ghost use Rattle.std.specs.Char.{encode_utf8};
 ghost use Rattle.form_tokens.specs.declared.chunk.Context.{Context};
 ghost use Rattle.std.specs.List.{prefix_len};
-ghost use Rattle.form_tokens.specs.Readers.{Gives};
-ghost use Rattle.form_tokens.specs.Characters.{chunk_of, ends_name, begins_shown, chunk_at, closes_textarea, decoded, is_reference, is_shown_angle, shown_at, shown_len, is_plain};
+ghost use Rattle.form_tokens.specs.Readers.{Fails, Gives};
+ghost use Rattle.form_tokens.specs.Bytes.{ampersand};
+ghost use Rattle.form_tokens.specs.Characters.{HaltsIn, IsClear, IsPart, IsReadTo, begins_shown, chunk_at, chunk_of, closes_textarea, decoded, ends_name, ends_run, goes_on, is_other, is_reference, is_shown_angle, joined, shown_len};
 ghost use Rattle.form_tokens.specs.Runs.{begins, begins_so, in_class};
 ghost use Rattle.form_tokens.specs.declared.class.Class.TheVariants as classes;
+ghost use Rattle.form_tokens.specs.declared.chunk.Context.TheVariants as contexts;
 ghost use Rattle.form_tokens.specs.References.{begins_named, begins_reference};
 
 use crate::chunk::{Chunk, Context};
 use crate::class::Class;
-use crate::cursor::{after_byte, run_len};
-use crate::fault::{Fault, Stop};
+use crate::cursor::{after_byte, before, begins, run_len};
+use crate::fault::{Fault, Halt, Stop};
 use crate::references::{common_of, reference_of};
 use form_text::Text;
-use memchr::memchr3;
+use memchr::memmem::find;
 use std::alloc::{AllocError, Global};
+
+// So far one looks at most, before the bytes are used, for what ends characters.
+const LOOK_AHEAD: usize = 4_096;
 
 fn begins_byte(bytes: &[u8], byte: u8) -> bool
     ensures { result ≡ begins byte bytes.now }
@@ -113,73 +118,231 @@ fn is_shown_angle(context: Context, bytes: &[u8]) -> bool
     }
 }
 
-// How many bytes stand before the first `<`, `&` or U+0000.
-#[inline(never)]
-fn plain_len(bytes: &[u8]) -> usize
-    ensures value { result ≡ prefix_len is_plain bytes.now }
-    ensures bound { result ≤ length bytes.now }
+// One more than these places, unless that is past the end.
+fn one_more(near: usize, len: usize) -> usize
+    requires { near ≤ len }
+    ensures { result ≡ min (near + 1) len }
 {
-    match memchr3(b'<', b'&', 0, bytes) {
-        Some(place) => place,
-        None => bytes.len(),
+    if near < len {
+        return near + 1;
+    }
+    len
+}
+
+// How many of the next bytes stand before the first `</`: what stands before it and before the first
+// U+0000 is clear in a textarea.
+fn before_end_tag(bytes: &[u8], near: usize) -> usize
+    requires { near ≤ length bytes.now }
+    ensures bound { result ≤ near }
+    ensures clear { (n : ℕ) → n ≤ result → n ≤ prefix_len (is_other 0) bytes.now
+        → IsClear contexts.Textarea n bytes.now }
+{
+    let (front, _) = bytes.split_at(one_more(near, bytes.len()));
+    match find(front, b"</") {
+        Some(place) => usize::min(place, near),
+        None => near,
     }
 }
 
-// How many bytes of characters stand at the front: one, or as many as need no further look.
-fn shown_step(context: Context, bytes: &[u8]) -> usize
-    ensures value { shown_len context bytes.now
-        ≡ result + shown_len context (drop result bytes.now) }
-    ensures none { result ≡ 0 → begins_shown context bytes.now ≡ false }
-    ensures bound { result ≤ length bytes.now }
+// How many of the next bytes stand before the first `<`: what stands before it and before the first
+// U+0000 is clear.
+fn before_angle(context: Context, bytes: &[u8], near: usize) -> usize
+    requires { near ≤ length bytes.now }
+    ensures bound { result ≤ near }
+    ensures clear { (n : ℕ) → n ≤ result → n ≤ prefix_len (is_other 0) bytes.now
+        → IsClear context n bytes.now }
 {
-    let Some((first, rest)) = bytes.split_first() else {
-        return 0;
+    let (front, _) = bytes.split_at(near);
+    before(b'<', front)
+}
+
+// How many of the next bytes stand before the first `<` that may be no character: what stands before it
+// and before the first U+0000 is clear.
+fn before_stop(context: Context, bytes: &[u8], near: usize) -> usize
+    requires { near ≤ length bytes.now }
+    ensures bound { result ≤ near }
+    ensures clear { (n : ℕ) → n ≤ result → n ≤ prefix_len (is_other 0) bytes.now
+        → IsClear context n bytes.now }
+{
+    match context {
+        Context::Value => near,
+        Context::Content => before_angle(context, bytes, near),
+        Context::Textarea => before_end_tag(bytes, near),
+    }
+}
+
+// How many bytes at the front are characters or `&`, as far as one looks.
+fn clear_len(context: Context, bytes: &[u8]) -> usize
+    ensures { IsClear context result bytes.now }
+{
+    let near = usize::min(LOOK_AHEAD, bytes.len());
+    let (front, _) = bytes.split_at(before_stop(context, bytes, near));
+    before(0, front)
+}
+
+// How many bytes at the front are clear: those that are known, or else as far as one looks.
+#[inline(always)]
+fn some_clear(context: Context, bytes: &[u8], clear: usize) -> usize
+    requires { IsClear context clear bytes.now }
+    ensures { IsClear context result bytes.now }
+{
+    if clear > 0 {
+        return clear;
+    }
+    clear_len(context, bytes)
+}
+
+// Whether the byte at the front, which is no `&`, is a character.
+fn begins_shown(context: Context, first: u8, bytes: &[u8]) -> bool
+    requires first { (rest : List ℕ) × (bytes.now ≡ first ∷ rest) }
+    requires other { is_other ampersand first ≡ true }
+    ensures { result ≡ begins_shown context bytes.now }
+{
+    if first == b'<' {
+        return is_shown_angle(context, bytes);
+    }
+    first != 0
+}
+
+// How many bytes of characters stand at the front, one or as many as need no further look, none at a `&`;
+// and how many bytes behind them are clear.
+#[inline(always)]
+fn shown_step(context: Context, bytes: &[u8], clear: usize) -> (usize, usize)
+    requires { IsClear context clear bytes.now }
+    ensures value { shown_len context bytes.now
+        ≡ result.0 + shown_len context (drop result.0 bytes.now) }
+    ensures none { result.0 ≡ 0 → ends_run context bytes.now ≡ true }
+    ensures bound { result.0 ≤ length bytes.now }
+    ensures clear { IsClear context result.1 (drop result.0 bytes.now) }
+{
+    let Some((first, _)) = bytes.split_first() else {
+        return (0, 0);
     };
     if *first == b'&' {
-        return if begins_reference(rest) { 0 } else { 1 };
+        return (0, clear);
     }
-    if *first == b'<' {
-        return if is_shown_angle(context, bytes) { 1 } else { 0 };
+    let clear = some_clear(context, bytes, clear);
+    if clear == 0 {
+        return if begins_shown(context, *first, bytes) {
+            (1, 0)
+        } else {
+            (0, 0)
+        };
     }
-    plain_len(bytes)
+    let (front, _) = bytes.split_at(clear);
+    let count = before(b'&', front);
+    (count, clear - count)
 }
 
-// How many bytes of characters stand at the front.
-fn shown_len(context: Context, bytes: &[u8]) -> usize
-    ensures value { result ≡ shown_len context bytes.now }
-    ensures bound { result ≤ length bytes.now }
+// How many bytes of characters stand at the front, up to the first `&`, and how many bytes behind them
+// are clear.
+#[inline(always)]
+fn shown_run(context: Context, bytes: &[u8], clear: usize) -> (usize, usize)
+    requires { IsClear context clear bytes.now }
+    ensures value { shown_len context bytes.now
+        ≡ result.0 + shown_len context (drop result.0 bytes.now) }
+    ensures ends { ends_run context (drop result.0 bytes.now) ≡ true }
+    ensures bound { result.0 ≤ length bytes.now }
+    ensures clear { IsClear context result.1 (drop result.0 bytes.now) }
 {
     let mut done = 0;
+    let mut clear = clear;
     'steps: while done < bytes.len() {
         let (_, rest) = bytes.split_at(done);
-        let count = shown_step(context, rest);
+        let (count, left) = shown_step(context, rest, clear);
         if count == 0 {
-            return done;
+            return (done, left);
         }
         done += count;
+        clear = left;
     }
-    bytes.len()
+    (done, clear)
 }
 
-// As many characters as there are, at least one.
-#[tactic(auto, unfolding(crate::specs::Characters::shown_at))]
-fn shown_of(context: Context, text: &str) -> Result<(&str, &str), Stop>
-    ensures { Gives (λ x. (x.0.now, x.1.now)) result (shown_at context text.now) }
+// Some characters, what stands behind them, and how much of it is clear.
+#[inline(always)]
+fn run_part(context: Context, text: &str, clear: usize) -> Result<(Chunk<'_>, &str, usize), Stop>
+    requires clear { IsClear context clear text.now }
+    requires other { begins ampersand text.now ≡ false }
+    ensures part { IfOk result (λ x. IsPart context text.now (chunk_of x.0) x.1.now) }
+    ensures utf8 { IfOk result (λ x. IsUtf8 x.1.now) }
+    ensures clear { IfOk result (λ x. IsClear context x.2 x.1.now) }
+    ensures halt { IfErr result (λ stop. Fails stop (chunk_at context text.now)) }
 {
-    let count = shown_len(context, text.as_bytes());
+    let (count, left) = shown_run(context, text.as_bytes(), clear);
     if count == 0 {
         return Err(Stop::At(Fault::Lexical));
     }
     let (shown, rest) = text.split_at(count);
-    Ok((shown, rest))
+    Ok((Chunk::Run(shown), rest, left))
 }
 
-// A common reference at the front, and what stands behind it.
+// The same, where a `&` that begins no reference is one of the characters.
+fn any_step(context: Context, bytes: &[u8], clear: usize) -> (usize, usize)
+    requires { IsClear context clear bytes.now }
+    ensures value { shown_len context bytes.now
+        ≡ result.0 + shown_len context (drop result.0 bytes.now) }
+    ensures none { result.0 ≡ 0 → begins_shown context bytes.now ≡ false }
+    ensures bound { result.0 ≤ length bytes.now }
+    ensures clear { IsClear context result.1 (drop result.0 bytes.now) }
+{
+    let Some((first, rest)) = bytes.split_first() else {
+        return (0, 0);
+    };
+    if *first != b'&' {
+        return shown_step(context, bytes, clear);
+    }
+    if begins_reference(rest) {
+        return (0, clear);
+    }
+    (1, clear.saturating_sub(1))
+}
+
+// How many bytes of characters stand at the front, and how many bytes behind them are clear.
+fn shown_len(context: Context, bytes: &[u8], clear: usize) -> (usize, usize)
+    requires { IsClear context clear bytes.now }
+    ensures value { result.0 ≡ shown_len context bytes.now }
+    ensures bound { result.0 ≤ length bytes.now }
+    ensures clear { IsClear context result.1 (drop result.0 bytes.now) }
+{
+    let mut done = 0;
+    let mut clear = clear;
+    'steps: while done < bytes.len() {
+        let (_, rest) = bytes.split_at(done);
+        let (count, left) = any_step(context, rest, clear);
+        if count == 0 {
+            return (done, left);
+        }
+        done += count;
+        clear = left;
+    }
+    (done, clear)
+}
+
+// All characters behind a `&` that begins no reference, and it; what stands behind them, and how much of
+// it is clear.
+#[inline(never)]
+fn ampersand_part(context: Context, text: &str, clear: usize) -> (Chunk<'_>, &str, usize)
+    requires clear { IsClear context clear text.now }
+    requires first { begins ampersand text.now ≡ true }
+    requires none { is_reference text.now ≡ false }
+    ensures part { IsPart context text.now (chunk_of result.0) result.1.now }
+    ensures utf8 { IsUtf8 result.1.now }
+    ensures clear { IsClear context result.2 result.1.now }
+{
+    let (count, left) = shown_len(context, text.as_bytes(), clear);
+    let (shown, rest) = text.split_at(count);
+    (Chunk::Run(shown), rest, left)
+}
+
+// A common reference at the front, what stands behind it, and how much of it is clear.
 #[inline(always)]
-fn common_chunk(text: &str) -> Option<(char, &str)>
+fn common_chunk(context: Context, text: &str, clear: usize) -> Option<(char, &str, usize)>
+    requires { IsClear context clear text.now }
     ensures value { MatchOption result (Unit {0})
-        (λ x. (context : Context) → chunk_at context text.now ≡ Ok (encode_utf8 x.0, x.1.now)) }
+        (λ x. chunk_at context text.now ≡ Ok (encode_utf8 x.0, x.1.now)) }
     ensures utf8 { MatchOption result (Unit {0}) (λ x. IsUtf8 x.1.now) }
+    ensures clear { MatchOption result (Unit {0}) (λ x. IsClear context x.2 x.1.now) }
 {
     let Some((first, rest)) = text.as_bytes().split_first() else {
         return None;
@@ -191,7 +354,7 @@ fn common_chunk(text: &str) -> Option<(char, &str)>
         return None;
     };
     let (_, rest) = text.split_at(count + 1);
-    Some((c, rest))
+    Some((c, rest, clear.saturating_sub(count + 1)))
 }
 
 fn is_reference(text: &str) -> bool
@@ -203,23 +366,122 @@ fn is_reference(text: &str) -> bool
     }
 }
 
-/// Characters or a reference at the front, and what stands behind.
+// What stands at the front and begins with a `&`.
 #[inline(always)]
 #[tactic(auto, unfolding(crate::specs::Characters::chunk_at))]
-pub fn chunk_of<'a>(context: Context, text: &'a str) -> Result<(Chunk<'a>, &'a str), Stop>
-    ensures value { Gives (λ x. (chunk_of x.0, x.1.now)) result (chunk_at context text.now) }
+fn reference_part<'a>(
+    context: Context,
+    text: &'a str,
+    clear: usize,
+) -> Result<(Chunk<'a>, &'a str, usize), Stop>
+    requires clear { IsClear context clear text.now }
+    requires first { begins ampersand text.now ≡ true }
+    ensures part { IfOk result (λ x. IsPart context text.now (chunk_of x.0) x.1.now) }
     ensures utf8 { IfOk result (λ x. IsUtf8 x.1.now) }
+    ensures clear { IfOk result (λ x. IsClear context x.2 x.1.now) }
+    ensures halt { IfErr result (λ stop. Fails stop (chunk_at context text.now)) }
 {
-    if let Some((c, rest)) = common_chunk(text) {
-        return Ok((Chunk::Character(c), rest));
+    if let Some((c, rest, left)) = common_chunk(context, text, clear) {
+        return Ok((Chunk::Character(c), rest, left));
     }
-    if is_reference(text) {
-        let rest = after_byte(text, b'&')?;
-        let (c, rest) = reference_of(rest)?;
-        return Ok((Chunk::Character(c), rest));
+    if !is_reference(text) {
+        return Ok(ampersand_part(context, text, clear));
     }
-    let (shown, rest) = shown_of(context, text)?;
-    Ok((Chunk::Run(shown), rest))
+    let rest = after_byte(text, b'&')?;
+    let (c, rest) = reference_of(rest)?;
+    let count = text.len().saturating_sub(rest.len());
+    Ok((Chunk::Character(c), rest, clear.saturating_sub(count)))
+}
+
+// The characters up to the first `&`, or what begins with a `&`; what stands behind, and how much of it
+// is clear.
+#[inline(always)]
+fn part_of<'a>(
+    context: Context,
+    text: &'a str,
+    clear: usize,
+) -> Result<(Chunk<'a>, &'a str, usize), Stop>
+    requires { IsClear context clear text.now }
+    ensures part { IfOk result (λ x. IsPart context text.now (chunk_of x.0) x.1.now) }
+    ensures utf8 { IfOk result (λ x. IsUtf8 x.1.now) }
+    ensures clear { IfOk result (λ x. IsClear context x.2 x.1.now) }
+    ensures halt { IfErr result (λ stop. Fails stop (chunk_at context text.now)) }
+{
+    if begins(text, b'&') {
+        reference_part(context, text, clear)
+    } else {
+        run_part(context, text, clear)
+    }
+}
+
+// Whether there are more characters.
+fn goes_on(context: Context, text: &str) -> bool
+    ensures { result ≡ goes_on context text.now }
+{
+    match context {
+        Context::Content => !text.is_empty() && !begins(text, b'<'),
+        Context::Textarea => !text.is_empty() && !closes_textarea(text.as_bytes()),
+        Context::Value => !text.is_empty(),
+    }
+}
+
+// For so many bytes there is room before the first characters are written: no more stand before the next
+// tag.
+fn room_of(context: Context, chunk: Chunk<'_>, rest: &str) -> usize {
+    let ahead = match context {
+        Context::Value => rest.len(),
+        _ => before(b'<', rest.as_bytes()),
+    };
+    match chunk {
+        Chunk::Run(text) => ahead.saturating_add(text.len()),
+        Chunk::Character(c) => ahead.saturating_add(c.len_utf8()),
+    }
+}
+
+// Writes characters behind a text. Where it has none yet, room is made for those to come.
+#[inline(always)]
+fn write_chunk(
+    out: &mut String,
+    context: Context,
+    chunk: Chunk<'_>,
+    rest: &str,
+) -> Result<(), AllocError>
+    ensures { OnOk result (string_bytes out.new ≡ string_bytes out.old ++ chunk_of chunk.entry) }
+{
+    if out.is_empty() {
+        out.reserve(room_of(context, chunk, rest))?;
+    }
+    chunk.write(out)
+}
+
+/// Writes the characters and references at the front of a text behind what was written, decoded, and
+/// gives what stands behind them: a tag, the end tag of the textarea, or nothing where the value ends.
+/// An error says where it stopped.
+pub fn write_text<'a>(out: &mut String, context: Context, text: &'a str) -> Result<&'a str, Halt>
+    ensures value { IfOk result (λ rest. (chunks : List (List ℕ))
+        × IsReadTo context chunks text.now rest.now
+        × (string_bytes out.new ≡ string_bytes out.old ++ joined chunks)) }
+    ensures utf8 { IfOk result (λ rest. IsUtf8 rest.now) }
+    ensures halt { IfErr result (λ halt. HaltsIn context text.now halt) }
+{
+    let mut rest = text;
+    let mut clear = 0;
+    'parts: while goes_on(context, rest) {
+        match part_of(context, rest, clear) {
+            Ok((chunk, after, left)) => {
+                write_chunk(out, context, chunk, after)?;
+                rest = after;
+                clear = left;
+            }
+            Err(stop) => {
+                return Err(Halt {
+                    stop,
+                    left: rest.len(),
+                });
+            }
+        }
+    }
+    Ok(rest)
 }
 
 /// The value of an attribute, decoded.
@@ -227,17 +489,8 @@ pub fn decode(alloc: Global, text: &str) -> Result<Text, Stop>
     ensures { Gives (λ x. x) result (decoded text.now) }
 {
     let mut out = String::new(alloc);
-    let mut rest = text;
-    'chunks: while !rest.is_empty() {
-        match chunk_of(Context::Value, rest) {
-            Ok((chunk, after)) => {
-                chunk.write(&mut out)?;
-                rest = after;
-            }
-            Err(stop) => {
-                return Err(stop);
-            }
-        }
+    match write_text(&mut out, Context::Value, text) {
+        Ok(_) => Ok(Text::from_string(out)),
+        Err(halt) => Err(halt.stop),
     }
-    Ok(Text::from_string(out))
 }

@@ -1,6 +1,8 @@
 // Small readers of the front of a text.
 ghost use Rattle.std.specs.Prelude.{◌≡◌, ◌≤◌, ◌<◌, length, take, drop, ◌==◌};
 ghost use Rattle.std.specs.Char.{is_ascii_alphabetic};
+ghost use Rattle.std.specs.List.{prefix_len};
+ghost use Rattle.form_tokens.specs.Characters.{is_other};
 ghost use Rattle.form_tokens.specs.Readers.{Gives};
 ghost use Rattle.form_tokens.specs.Runs.{IsLow, behind, behind_space, begins, begins_so, in_class, run_at, run_len};
 ghost use Rattle.form_tokens.specs.Attributes.{begins_attribute};
@@ -8,17 +10,26 @@ ghost use Rattle.form_tokens.specs.declared.class.Class.TheVariants as classes;
 
 use crate::class::Class;
 use crate::fault::{Fault, Stop};
-use memchr::memchr2;
+use memchr::memchr;
+
+/// How many bytes stand before the first of the kind.
+pub fn before(byte: u8, bytes: &[u8]) -> usize
+    ensures value { result ≡ prefix_len (is_other byte) bytes.now }
+    ensures bound { result ≤ length bytes.now }
+{
+    match memchr(byte, bytes) {
+        Some(place) => place,
+        None => bytes.len(),
+    }
+}
 
 // How many bytes stand before the quote or U+0000.
 fn quoted_len(quote: u8, bytes: &[u8]) -> usize
     ensures value { result ≡ run_len (classes.Quoted quote) bytes.now }
     ensures bound { result ≤ length bytes.now }
 {
-    match memchr2(quote, 0, bytes) {
-        Some(place) => place,
-        None => bytes.len(),
-    }
+    let (front, _) = bytes.split_at(before(quote, bytes));
+    before(0, front)
 }
 
 // How many bytes of the class stand at the front, one after another.

@@ -35,3 +35,21 @@ impl<T: Drop> From<AllocFailed<T>> for Stop {
         Stop::Memory
     }
 }
+
+/// Why reading stopped behind other pieces, and how many bytes of the text were left there.
+#[derive(Drop)]
+pub struct Halt {
+    pub stop: Stop,
+    pub left: usize,
+}
+
+impl From<AllocError> for Halt {
+    ghost from_gives = { λ _ e. e.stop ≡ Memory };
+
+    fn from(_e: AllocError) -> Halt {
+        Halt {
+            stop: Stop::Memory,
+            left: 0,
+        }
+    }
+}

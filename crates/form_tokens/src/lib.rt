@@ -14,11 +14,11 @@ mod fault;
 mod references;
 
 pub use attributes::{Attributes, attributes_of};
-pub use characters::{chunk_of, closes_textarea};
-pub use chunk::{Chunk, Context};
+pub use characters::{closes_textarea, write_text};
+pub use chunk::Context;
 pub use class::Class;
 pub use cursor::{after_byte, begins, begins_letter, behind_space, run_of};
-pub use fault::{Fault, Stop};
+pub use fault::{Fault, Halt, Stop};
 
 /// The most attributes of a tag, counted as they are written.
 pub const MOST_ATTRIBUTES: usize = 64;

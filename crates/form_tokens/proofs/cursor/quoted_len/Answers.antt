@@ -1,12 +1,11 @@
-use Rattle.std.proofs.Common.{length, arith}
-use Rattle.memchr.specs.Find.{is_byte2}
-use Rattle.form_tokens.proofs.Numbers.{front_before}
+use Rattle.std.proofs.Common.{◌∙◌, ap, take}
+use Rattle.std.specs.List.{prefix_len}
+use Rattle.form_tokens.specs.Characters.{is_other}
+use Rattle.form_tokens.proofs.Numbers.{quoted_both}
 use Rattle.form_tokens.proofs.cursor.quoted_len.Goals as goal
 
-pub returns-in-Some-clause-value : goal.returns-in-Some-clause-value
-returns-in-Some-clause-value c =
-    front_before (is_byte2 c.args.quote 0) c.args.bytes.now c.in-Some.place (λ i lt h. c.in-Some.ensures.0.before i (omega arith) lt h) (λ lt. c.in-Some.ensures.1) (omega (arith, c.in-Some.ensures.0.high))
-
-pub returns-in-None-clause-value : goal.returns-in-None-clause-value
-returns-in-None-clause-value c =
-    front_before (is_byte2 c.args.quote 0) c.args.bytes.now (length c.args.bytes.now) (λ i lt h. c.in-None.ensures i (omega arith) lt h) (λ lt. absurd (omega arith)) (omega arith)
+pub returns-clause-value : goal.returns-clause-value
+returns-clause-value c =
+    c.before-3.ensures.value
+    ∙ (ap (prefix_len (is_other 0)) c.split_at.ensures.front
+    ∙ (ap (λ n. prefix_len (is_other 0) (take n c.args.bytes.now)) c.before-2.ensures.value ∙ quoted_both c.args.quote c.args.bytes.now))

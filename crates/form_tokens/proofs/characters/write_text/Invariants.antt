@@ -1,0 +1,12 @@
+use Rattle.std.proofs.Common.{◌≡◌, ◌++◌, ℕ, List, length, string_bytes}
+use denote.Text.{Utf8}
+use denote.Shadow.{shadow}
+use Rattle.form_tokens.specs.Characters.{IsClear, joined}
+use Rattle.form_tokens.proofs.Parts.{AreParts}
+use Rattle.form_tokens.proofs.characters.write_text.Given as goal
+
+abbrev pub invariant-parts : goal.invariant-parts
+invariant-parts l = ((parts : List (List ℕ)) × AreParts l.context parts l.text l.rest × (string_bytes l.out ≡ string_bytes l.fn.out ++ joined parts) × IsClear l.context l.clear l.rest) × shadow (Utf8 l.rest)
+
+abbrev pub decreases-parts : goal.decreases-parts
+decreases-parts l = length l.rest

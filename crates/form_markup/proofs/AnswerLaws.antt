@@ -2,7 +2,8 @@
 use Rattle.std.proofs.Common.{◌≡◌, ℕ, zero, suc, ◌-◌, ◌<◌, ◌≤◌, List, [], ◌∷◌, Result, Ok, Err, length, refl, sym, ap, subst, ◌∙◌, arith}
 use Rattle.form_tree.specs.declared.node.Raw.{Raw}
 use Rattle.form_tree.specs.declared.node.Tag.{Tag}
-use Rattle.form_markup.specs.Answer.{Answering, Answers, answer_of, end_answer, rest_answer, turn_answer}
+use Rattle.form_markup.specs.Goes.{Answering}
+use Rattle.form_markup.specs.Answer.{Answers, answer_of, end_answer, rest_answer, turn_answer}
 use Rattle.form_tokens.specs.Readers.{Fails}
 use Rattle.form_markup.specs.Machine.{Level, State, turn}
 use Rattle.form_markup.specs.Spelling.{IsRead, page_fault}

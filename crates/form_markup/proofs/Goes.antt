@@ -14,7 +14,8 @@ use Rattle.form_tokens.specs.declared.fault.Halt.{Halt}
 use Rattle.form_tokens.specs.declared.fault.Stop.{Stop}
 use Rattle.form_tokens.specs.declared.fault.Stop.TheVariants as stops
 use Rattle.form_tokens.proofs.Laws.{chunk_shorter}
-use Rattle.form_markup.specs.Answer.{Answering, Answers, GoesTo, HaltsWith, answer_of}
+use Rattle.form_markup.specs.Answer.{Answers, answer_of}
+use Rattle.form_markup.specs.Goes.{Answering, GoesTo, HaltsWith, Suits}
 use Rattle.form_markup.specs.Machine.{Level, State, more_text, outers_of, state, turn}
 use Rattle.form_markup.specs.Pieces.{is_in_textarea}
 use Rattle.form_markup.specs.Spelling.{page_fault}
@@ -40,12 +41,6 @@ turn_goes around m next text rest e =
 pub turn_halts : (around : List Tag) (m : State) (text : List ℕ) (halt : Halt) → 0 < length text → halt.left ≡ length text → Fails halt.stop (turn around m text) → HaltsWith around m text halt
 turn_halts around m text halt lt e f = λ whole a.
     subst (λ n. Answers {X = List Raw} (λ raws. raws) (answer_of around whole) (Err (page_fault halt.stop (length whole - n)))) (sym e) (answer_failed around whole m text halt.stop a lt f)
-
--- the context of the characters that are read
-abbrev pub Suits : Context → State → Type 0
-Suits contexts.Content m = is_in_textarea (outers_of m.levels) ≡ false
-Suits contexts.Textarea m = is_in_textarea (outers_of m.levels) ≡ true
-Suits contexts.Value m = ⊥
 
 first_holds : (a b : Bool) → (a && b) ≡ true → a ≡ true
 first_holds true b e = refl
@@ -127,23 +122,27 @@ chunks_halt around place m text left (stops.At kind) whole s h a =
 pub chunks_halts : (around : List Tag) (place : Context) (m : State) (text : List ℕ) (halt : Halt) → Suits place m → HaltsAt place text halt.left halt.stop → HaltsWith around m text halt
 chunks_halts around place m text halt s h = λ whole a. chunks_halt around place m text halt.left halt.stop whole s h a
 
-both_hold : (text : List ℕ) (b : Bool) → 0 < length text → b ≡ false → (is_some_text text && not b) ≡ true
-both_hold text true lt e = absurd (cc)
-both_hold text false lt e = ap (λ a. a && true) (lt-ltb 0 (length text) lt)
+none_or : (a b : Bool) → a ≡ true → (a && not b) ≡ false → b ≡ true
+none_or true true e f = refl
+none_or true false e f = absurd (cc)
+none_or false b e f = absurd (cc)
 
-pub on_content : (text : List ℕ) → 0 < length text → begins less_than text ≡ false → goes_on contexts.Content text ≡ true
-on_content text lt e = both_hold text (begins less_than text) lt e
-
-pub on_textarea : (text : List ℕ) → 0 < length text → closes_textarea text ≡ false → goes_on contexts.Textarea text ≡ true
-on_textarea text lt e = both_hold text (closes_textarea text) lt e
+some_is : (text : List ℕ) → 0 < length text → is_some_text text ≡ true
+some_is text lt = lt-ltb 0 (length text) lt
 
 -- a turn on a tag
-pub tag_outside : (around : List Tag) (m : State) (text : List ℕ) → is_in_textarea (outers_of m.levels) ≡ false → begins less_than text ≡ true → tag_turn around m text ≡ turn around m text
+tag_outside : (around : List Tag) (m : State) (text : List ℕ) → is_in_textarea (outers_of m.levels) ≡ false → begins less_than text ≡ true → tag_turn around m text ≡ turn around m text
 tag_outside around m text o e =
     let f : Bool → Result (State × List ℕ) Fault = λ b. if b then tag_turn around m text else text_turn contexts.Content m text in
     sym (ap f e) ∙ turn_outside around m text o
 
-pub tag_inside : (around : List Tag) (m : State) (text : List ℕ) → is_in_textarea (outers_of m.levels) ≡ true → closes_textarea text ≡ true → tag_turn around m text ≡ turn around m text
+tag_inside : (around : List Tag) (m : State) (text : List ℕ) → is_in_textarea (outers_of m.levels) ≡ true → closes_textarea text ≡ true → tag_turn around m text ≡ turn around m text
 tag_inside around m text o e =
     let f : Bool → Result (State × List ℕ) Fault = λ b. if b then tag_turn around m text else text_turn contexts.Textarea m text in
     sym (ap f e) ∙ turn_inside around m text o
+
+-- where there are no more characters, a tag is next
+pub tag_goes : (around : List Tag) (place : Context) (m : State) (text : List ℕ) → Suits place m → 0 < length text → goes_on place text ≡ false → tag_turn around m text ≡ turn around m text
+tag_goes around contexts.Content m text s lt e = tag_outside around m text s (none_or (is_some_text text) (begins less_than text) (some_is text lt) e)
+tag_goes around contexts.Textarea m text s lt e = tag_inside around m text s (none_or (is_some_text text) (closes_textarea text) (some_is text lt) e)
+tag_goes around contexts.Value m text s lt e = absurd s

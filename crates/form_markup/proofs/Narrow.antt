@@ -1,35 +1,11 @@
 -- Where nothing is restricted, no element is odd.
-use Rattle.std.proofs.Common.{◌≡◌, List, [], ◌∷◌, Bool, true, false, ◌||◌, ◌&&◌, map, not, codes, reverse, refl, sym, ap, ◌∙◌, ℕ}
+use Rattle.std.proofs.Common.{◌≡◌, List, [], ◌∷◌, Bool, true, false, ◌||◌, ◌&&◌, not, codes, refl, ap, ◌∙◌, ℕ}
 use Rattle.std.specs.List.{list_any}
 use Rattle.std.specs.Str.{str_eq_ignore_ascii_case}
-use Rattle.std.proofs.lemmas.List.Folds.{list_any-append}
-use Rattle.std.proofs.lemmas.List.Sorted.{list_any-IsPermutation, IsPermutation-reverse}
 use Rattle.form_tree.specs.declared.node.Tag.{Tag}
 use Rattle.form_tree.specs.declared.node.Tag.TheVariants as tags
-use Rattle.form_markup.specs.Faults.{is_in_itself, is_inside, is_misplaced, is_odd_in_optgroup, is_odd_in_select, is_stray_optgroup, is_stray_option, is_tag, tags_round}
-use Rattle.form_markup.specs.Machine.{levels_of, outers_of}
+use Rattle.form_markup.specs.Faults.{is_in_itself, is_inside, is_misplaced, is_odd_in_optgroup, is_odd_in_select, is_stray_optgroup, is_stray_option, is_tag}
 use Rattle.form_markup.specs.Narrow.{is_narrow, is_odd_in_narrow}
-use Rattle.form_markup.specs.declared.machine.Open.{Open}
-
-any_narrow : (s : List Open) → list_any (λ o. is_narrow o.tag) s ≡ list_any is_narrow (map (λ outer. outer.tag) (outers_of (levels_of s)))
-any_narrow [] = refl
-any_narrow (o ∷ os) = ap (λ b. is_narrow o.tag || b) (any_narrow os)
-
-narrow_round : (around : List Tag) (s : List Open) → (list_any (λ o. is_narrow o.tag) (reverse s) || list_any is_narrow around) ≡ list_any is_narrow (tags_round around (outers_of (levels_of s)))
-narrow_round around s =
-    ap (λ b. b || list_any is_narrow around) (sym (list_any-IsPermutation (λ o. is_narrow o.tag) s (reverse s) (IsPermutation-reverse s)) ∙ any_narrow s)
-    ∙ (ap (λ b. list_any is_narrow (map (λ outer. outer.tag) (outers_of (levels_of s))) || b) (list_any-IsPermutation is_narrow around (reverse around) (IsPermutation-reverse around))
-    ∙ sym (list_any-append is_narrow (map (λ outer. outer.tag) (outers_of (levels_of s))) (reverse around)))
-
-pub narrow_then : (around : List Tag) (s : List Open) (r : Bool) → r ≡ list_any (λ o. is_narrow o.tag) (reverse s) → r ≡ true → r ≡ list_any is_narrow (tags_round around (outers_of (levels_of s)))
-narrow_then around s r e t =
-    let one : list_any (λ o. is_narrow o.tag) (reverse s) ≡ true = sym e ∙ t in
-    t ∙ (sym (ap (λ b. b || list_any is_narrow around) one) ∙ narrow_round around s)
-
-pub narrow_else : (around : List Tag) (s : List Open) (r q : Bool) → r ≡ list_any (λ o. is_narrow o.tag) (reverse s) → r ≡ false → q ≡ list_any is_narrow around → q ≡ list_any is_narrow (tags_round around (outers_of (levels_of s)))
-narrow_else around s r q e f h =
-    let none : list_any (λ o. is_narrow o.tag) (reverse s) ≡ false = sym e ∙ f in
-    h ∙ (sym (ap (λ b. b || list_any is_narrow around) none) ∙ narrow_round around s)
 
 either_false : (a b : Bool) → (a || b) ≡ false → (a ≡ false) × (b ≡ false)
 either_false true b e = absurd (cc)

@@ -6,7 +6,7 @@ use Rattle.std.proofs.lemmas.List.Folds.{list_any-append}
 use Rattle.std.proofs.lemmas.List.Sorted.{list_any-IsPermutation, IsPermutation-reverse}
 use Rattle.form_tree.specs.declared.node.Raw.{Raw}
 use Rattle.form_tree.specs.declared.node.Tag.{Tag}
-use Rattle.form_markup.specs.Faults.{is_tag, is_inside, tags_round}
+use Rattle.form_markup.specs.Faults.{tags_round}
 use Rattle.form_markup.specs.Machine.{Level, level_of, levels_of, more_text, outers_of, with_more, with_text}
 use Rattle.form_markup.specs.declared.machine.Open.{Open}
 
@@ -14,15 +14,15 @@ pub length_outers : (s : List Open) → length (outers_of (levels_of s)) ≡ len
 length_outers [] = refl
 length_outers (o ∷ os) = ap suc (length_outers os)
 
-pub any_tags : (wanted : Tag) (s : List Open) → list_any (λ o. is_tag wanted o.tag) s ≡ list_any (is_tag wanted) (map (λ outer. outer.tag) (outers_of (levels_of s)))
-any_tags wanted [] = refl
-any_tags wanted (o ∷ os) = ap (λ b. is_tag wanted o.tag || b) (any_tags wanted os)
+any_tags : (test : Tag → Bool) (s : List Open) → list_any (λ o. test o.tag) s ≡ list_any test (map (λ outer. outer.tag) (outers_of (levels_of s)))
+any_tags test [] = refl
+any_tags test (o ∷ os) = ap (λ b. test o.tag || b) (any_tags test os)
 
-pub inside_round : (wanted : Tag) (around : List Tag) (s : List Open) → (list_any (λ o. is_tag wanted o.tag) (reverse s) || list_any (is_tag wanted) around) ≡ is_inside wanted (tags_round around (outers_of (levels_of s)))
-inside_round wanted around s =
-    ap (λ b. b || list_any (is_tag wanted) around) (sym (list_any-IsPermutation (λ o. is_tag wanted o.tag) s (reverse s) (IsPermutation-reverse s)) ∙ any_tags wanted s)
-    ∙ (ap (λ b. list_any (is_tag wanted) (map (λ outer. outer.tag) (outers_of (levels_of s))) || b) (list_any-IsPermutation (is_tag wanted) around (reverse around) (IsPermutation-reverse around))
-    ∙ sym (list_any-append (is_tag wanted) (map (λ outer. outer.tag) (outers_of (levels_of s))) (reverse around)))
+any_round : (test : Tag → Bool) (around : List Tag) (s : List Open) → (list_any (λ o. test o.tag) (reverse s) || list_any test around) ≡ list_any test (tags_round around (outers_of (levels_of s)))
+any_round test around s =
+    ap (λ b. b || list_any test around) (sym (list_any-IsPermutation (λ o. test o.tag) s (reverse s) (IsPermutation-reverse s)) ∙ any_tags test s)
+    ∙ (ap (λ b. list_any test (map (λ outer. outer.tag) (outers_of (levels_of s))) || b) (list_any-IsPermutation test around (reverse around) (IsPermutation-reverse around))
+    ∙ sym (list_any-append test (map (λ outer. outer.tag) (outers_of (levels_of s))) (reverse around)))
 
 pub text_within : (i : ℕ) (text : List ℕ) (xs : List Raw) (r : Raw) → r ≡ get_or xs i r → i < length xs → set xs i (record r { text = text }) ≡ with_text i text xs
 text_within i text [] r e lt = absurd (omega arith)
@@ -38,15 +38,16 @@ pub length_levels : (s : List Open) → length (levels_of s) ≡ length s
 length_levels [] = refl
 length_levels (o ∷ os) = ap suc (length_levels os)
 
-pub inside_then : (wanted : Tag) (around : List Tag) (s : List Open) (r : Bool) → r ≡ list_any (λ o. is_tag wanted o.tag) (reverse s) → r ≡ true → r ≡ is_inside wanted (tags_round around (outers_of (levels_of s)))
-inside_then wanted around s r e t =
-    let one : list_any (λ o. is_tag wanted o.tag) (reverse s) ≡ true = sym e ∙ t in
-    t ∙ (sym (ap (λ b. b || list_any (is_tag wanted) around) one) ∙ inside_round wanted around s)
+-- an open element passes the test, or else one of those round the text
+pub any_then : (test : Tag → Bool) (around : List Tag) (s : List Open) (r : Bool) → r ≡ list_any (λ o. test o.tag) (reverse s) → r ≡ true → r ≡ list_any test (tags_round around (outers_of (levels_of s)))
+any_then test around s r e t =
+    let one : list_any (λ o. test o.tag) (reverse s) ≡ true = sym e ∙ t in
+    t ∙ (sym (ap (λ b. b || list_any test around) one) ∙ any_round test around s)
 
-pub inside_else : (wanted : Tag) (around : List Tag) (s : List Open) (r q : Bool) → r ≡ list_any (λ o. is_tag wanted o.tag) (reverse s) → r ≡ false → q ≡ list_any (is_tag wanted) around → q ≡ is_inside wanted (tags_round around (outers_of (levels_of s)))
-inside_else wanted around s r q e f h =
-    let none : list_any (λ o. is_tag wanted o.tag) (reverse s) ≡ false = sym e ∙ f in
-    h ∙ (sym (ap (λ b. b || list_any (is_tag wanted) around) none) ∙ inside_round wanted around s)
+pub any_else : (test : Tag → Bool) (around : List Tag) (s : List Open) (r q : Bool) → r ≡ list_any (λ o. test o.tag) (reverse s) → r ≡ false → q ≡ list_any test around → q ≡ list_any test (tags_round around (outers_of (levels_of s)))
+any_else test around s r q e f h =
+    let none : list_any (λ o. test o.tag) (reverse s) ≡ false = sym e ∙ f in
+    h ∙ (sym (ap (λ b. b || list_any test around) none) ∙ any_round test around s)
 
 pub more_front : (bytes : List ℕ) (s : List Level) (l : Level) → 0 < length s → more_text bytes s ++ (l ∷ []) ≡ more_text bytes (s ++ (l ∷ []))
 more_front bytes [] l lt = absurd (omega arith)

@@ -1,5 +1,5 @@
 -- What a text is read into, as one answer.
-use Rattle.std.specs.Prelude.{◌≡◌, ℕ, zero, suc, ◌-◌, ◌<◌, ◌≤◌, List, [], ◌∷◌, Result, Ok, Err, length}
+use Rattle.std.specs.Prelude.{◌≡◌, ℕ, zero, suc, ◌-◌, List, [], ◌∷◌, Result, Ok, Err, length}
 use Rattle.form_tree.specs.declared.node.Raw.{Raw}
 use Rattle.form_tree.specs.declared.node.Tag.{Tag}
 use Rattle.form_markup.specs.Machine.{Level, State, state, turn}
@@ -7,7 +7,6 @@ use Rattle.form_markup.specs.Spelling.{page_fault}
 use Rattle.form_tokens.specs.declared.fault.Fault.{Fault}
 use Rattle.form_markup.specs.declared.fault.PageFault.{PageFault}
 use Rattle.form_markup.specs.declared.fault.PageFault.TheVariants as pages
-use Rattle.form_tokens.specs.declared.fault.Halt.{Halt}
 use Rattle.form_tokens.specs.declared.fault.Stop.TheVariants as stops
 
 -- the answer at the end of a text of this length: none of its elements may be open
@@ -41,20 +40,3 @@ Answers view answer (Err (pages.Limit place)) = answer ≡ Err (pages.Limit plac
 Answers view answer (Err (pages.Element place)) = answer ≡ Err (pages.Element place)
 Answers view answer (Err (pages.Email place)) = answer ≡ Err (pages.Email place)
 Answers view answer (Err (pages.Nesting place)) = answer ≡ Err (pages.Nesting place)
-
--- the answer of the rest is that of the text
-pub record Answering (around : List Tag) (text : List ℕ) (m : State) (rest : List ℕ) : Type 0 where
-  pub fuel : ℕ
-  pub enough : length rest ≤ fuel
-  pub same : rest_answer fuel around (length text) m rest ≡ answer_of around text
-
--- Reading goes on from one place to a later one: the answer is the same.
-abbrev pub GoesTo : List Tag → State → List ℕ → State → List ℕ → Type 0
-GoesTo around m text next rest =
-    (length rest < length text) × ((whole : List ℕ) → Answering around whole m text → Answering around whole next rest)
-
--- Reading halts behind a place: with the answer's fault, or there was no memory.
-abbrev pub HaltsWith : List Tag → State → List ℕ → Halt → Type 0
-HaltsWith around m text halt =
-    (whole : List ℕ) → Answering around whole m text
-    → Answers {X = List Raw} (λ raws. raws) (answer_of around whole) (Err (page_fault halt.stop (length whole - halt.left)))

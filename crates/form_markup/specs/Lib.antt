@@ -9,3 +9,4 @@ pub mod Turns
 pub mod Limits
 pub mod Answer
 pub mod Narrow
+pub mod Goes

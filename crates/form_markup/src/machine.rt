@@ -9,6 +9,7 @@ ghost use Rattle.form_markup.specs.Contents.{Piece};
 ghost use Rattle.form_markup.specs.Faults.{element_fault, end_fault, fault_of, is_child_of, is_email, is_in_itself, is_inside, is_misplaced, is_odd_in_optgroup, is_odd_in_select, is_over_limit, is_stray_optgroup, is_stray_option, is_tag};
 ghost use Rattle.form_markup.specs.Names.{tag_named};
 ghost use Rattle.form_markup.specs.Pieces.{is_in_textarea};
+ghost use Rattle.form_markup.specs.Goes.{Suits};
 ghost use Rattle.form_markup.specs.Narrow.{is_narrow, is_odd_in_narrow};
 ghost use Rattle.form_markup.specs.Machine.{after, closed, levels_of, more_text, outers_in, parent_of, piece_of, round_of, state, state_of, tagged_of, with_raw};
 ghost use Rattle.form_tokens.specs.Characters.{HaltsIn, IsReadTo, joined};
@@ -127,13 +128,24 @@ impl<'a> Machine<'a> {
         }
     }
 
-    /// Whether the innermost open element is a textarea.
-    pub fn is_in_textarea(&self) -> bool
+    // Whether the innermost open element is a textarea.
+    fn is_in_textarea(&self) -> bool
         ensures { result ≡ is_in_textarea (outers_in self.now) }
     {
         match self.stack.top() {
             Some(open) => is_textarea(open.name),
             None => false,
+        }
+    }
+
+    /// What the next characters are: those of a textarea, or contents.
+    pub fn context(&self) -> Context
+        ensures { Suits result (state_of self.now) }
+    {
+        if self.is_in_textarea() {
+            Context::Textarea
+        } else {
+            Context::Content
         }
     }
 

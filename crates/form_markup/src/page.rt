@@ -1,15 +1,15 @@
-ghost use Rattle.std.specs.Prelude.{◌≡◌, ◌<◌, ℕ, List, [], Err, IfOk, IfErr, IsUtf8, Ok, false, length, true};
+ghost use Rattle.std.specs.Prelude.{◌≡◌, ◌<◌, ℕ, List, [], Err, IfOk, IfErr, IsUtf8, length};
 ghost use Rattle.form_markup.specs.declared.fault.PageFault.TheVariants.{Memory};
 ghost use Rattle.form_tree.specs.declared.node.Raw.{Raw};
 ghost use Rattle.form_tree.specs.declared.node.Tag.{Tag};
 ghost use Rattle.form_tokens.specs.declared.fault.Fault.{Fault};
 ghost use Rattle.form_markup.specs.Spelling.{GivesRaws, IsFault, IsPageFault, IsRead, Spells};
 ghost use Rattle.form_tree.specs.Tree.{IsTreeOfRaws};
-ghost use Rattle.form_markup.specs.Answer.{Answers, GoesTo, HaltsWith, answer_of};
+ghost use Rattle.form_markup.specs.Answer.{Answers, answer_of};
+ghost use Rattle.form_markup.specs.Goes.{GoesTo, HaltsWith};
 ghost use Rattle.form_markup.specs.Limits.{HoldsNoEmail, IsWithinLimits};
-ghost use Rattle.form_tokens.specs.Readers.{Fails, Gives};
-ghost use Rattle.form_markup.specs.Machine.{outers_in, state_of};
-ghost use Rattle.form_markup.specs.Pieces.{is_in_textarea};
+ghost use Rattle.form_tokens.specs.Readers.{Gives};
+ghost use Rattle.form_markup.specs.Machine.{state_of};
 ghost use Rattle.form_markup.specs.Turns.{tag_turn};
 
 use crate::fault::fault_at;
@@ -17,7 +17,7 @@ use crate::machine::Machine;
 use crate::raws::Raws;
 use crate::reading::tag_of;
 use crate::{MOST_ELEMENTS, PageFault};
-use form_tokens::{Context, Halt, Stop, after_byte, begins, closes_textarea};
+use form_tokens::{Halt, Stop, after_byte, goes_on};
 use form_tree::{Raw, Tag};
 use std::alloc::Global;
 
@@ -49,70 +49,6 @@ fn take_tag<'a>(
     }
 }
 
-// The same, where an error says how many bytes are left.
-fn advance_tag<'a>(
-    machine: &mut Machine<'a>,
-    alloc: Global,
-    around: &[Tag],
-    text: &'a str,
-) -> Result<&'a str, Halt>
-    ensures goes { IfOk result (λ rest.
-        tag_turn around.now (state_of machine.old) text.now ≡ Ok (state_of machine.new, rest.now)) }
-    ensures utf8 { IfOk result (λ rest. IsUtf8 rest.now) }
-    ensures halts { IfErr result (λ halt. (halt.left ≡ length text.now)
-        × Fails halt.stop (tag_turn around.now (state_of machine.old) text.now)) }
-{
-    match take_tag(machine, alloc, around, text) {
-        Ok(rest) => Ok(rest),
-        Err(stop) => Err(Halt {
-            stop,
-            left: text.len(),
-        }),
-    }
-}
-
-// Takes the tag or all characters at the front of the text where no textarea is open.
-fn advance_outside<'a>(
-    machine: &mut Machine<'a>,
-    alloc: Global,
-    around: &[Tag],
-    text: &'a str,
-) -> Result<&'a str, Halt>
-    requires some { 0 < length text.now }
-    requires outside { is_in_textarea (outers_in machine.old) ≡ false }
-    ensures goes { IfOk result (λ rest.
-        GoesTo around.now (state_of machine.old) text.now (state_of machine.new) rest.now) }
-    ensures utf8 { IfOk result (λ rest. IsUtf8 rest.now) }
-    ensures halts { IfErr result (λ halt. HaltsWith around.now (state_of machine.old) text.now halt) }
-{
-    if begins(text, b'<') {
-        advance_tag(machine, alloc, around, text)
-    } else {
-        machine.add_text(alloc, Context::Content, text)
-    }
-}
-
-// Takes the end tag or all characters at the front of a textarea's text.
-fn advance_inside<'a>(
-    machine: &mut Machine<'a>,
-    alloc: Global,
-    around: &[Tag],
-    text: &'a str,
-) -> Result<&'a str, Halt>
-    requires some { 0 < length text.now }
-    requires inside { is_in_textarea (outers_in machine.old) ≡ true }
-    ensures goes { IfOk result (λ rest.
-        GoesTo around.now (state_of machine.old) text.now (state_of machine.new) rest.now) }
-    ensures utf8 { IfOk result (λ rest. IsUtf8 rest.now) }
-    ensures halts { IfErr result (λ halt. HaltsWith around.now (state_of machine.old) text.now halt) }
-{
-    if closes_textarea(text.as_bytes()) {
-        advance_tag(machine, alloc, around, text)
-    } else {
-        machine.add_text(alloc, Context::Textarea, text)
-    }
-}
-
 // Takes the tag or all characters at the front of the text, and gives what stands behind them.
 fn advance<'a>(
     machine: &mut Machine<'a>,
@@ -126,10 +62,16 @@ fn advance<'a>(
     ensures utf8 { IfOk result (λ rest. IsUtf8 rest.now) }
     ensures halts { IfErr result (λ halt. HaltsWith around.now (state_of machine.old) text.now halt) }
 {
-    if machine.is_in_textarea() {
-        advance_inside(machine, alloc, around, text)
-    } else {
-        advance_outside(machine, alloc, around, text)
+    let context = machine.context();
+    if goes_on(context, text) {
+        return machine.add_text(alloc, context, text);
+    }
+    match take_tag(machine, alloc, around, text) {
+        Ok(rest) => Ok(rest),
+        Err(stop) => Err(Halt {
+            stop,
+            left: text.len(),
+        }),
     }
 }
 

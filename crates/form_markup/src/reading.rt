@@ -9,10 +9,9 @@ ghost use Rattle.form_markup.specs.Tags.{start_kept, tag_kept};
 use crate::names::{is_textarea, is_void};
 use crate::piece::{Found, Head};
 use form_tokens::{
-    Attributes, Class, Fault, Stop, after_byte, attributes_of, begins, begins_letter, behind_space,
-    run_of,
+    Attributes, Class, Fault, Stop, after_byte, attributes_of, before, begins, begins_letter,
+    behind_space, run_of,
 };
-use memchr::memchr;
 use std::alloc::Global;
 
 // The piece of a tag that begins an element.
@@ -93,10 +92,7 @@ fn before_end(bytes: &[u8]) -> usize
     ensures value { result ≡ prefix_len is_before_end bytes.now }
     ensures bound { result ≤ length bytes.now }
 {
-    match memchr(b'>', bytes) {
-        Some(place) => place,
-        None => bytes.len(),
-    }
+    before(b'>', bytes)
 }
 
 // Whether a comment ends with the byte at the place.

@@ -6,8 +6,7 @@ use Rattle.std.specs.Str.Parse.{AllDigits, IsNumeral}
 use Rattle.std.proofs.lemmas.Bool.{ltb-true}
 use Rattle.std.proofs.lemmas.List.Sums.{prefix_len-le-length}
 use Rattle.std.proofs.lemmas.Bool.Decides.{nat_tests}
-use Rattle.form_tokens.specs.Characters.{is_other}
-use Rattle.form_tokens.specs.Runs.{in_class, run_at, run_len}
+use Rattle.form_tokens.specs.Runs.{in_class, is_other, run_at, run_len}
 use Rattle.form_tokens.specs.declared.fault.Fault.{Fault}
 use Rattle.form_tokens.specs.declared.fault.Fault.TheVariants.{Lexical}
 use Rattle.form_tokens.specs.declared.class.Class.{Class}

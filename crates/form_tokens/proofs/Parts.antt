@@ -5,7 +5,8 @@ use Rattle.std.proofs.lemmas.Bool.{cases_lt, lt-ltb}
 use Rattle.std.proofs.lemmas.List.{drop-drop}
 use Rattle.std.proofs.lemmas.Bool.Decides.{nat_tests}
 use Rattle.std.specs.Char.{encode_utf8}
-use Rattle.form_tokens.specs.Characters.{AreChunks, HaltsAt, IsPart, begins_shown, chunk_at, closes_textarea, ends_run, goes_on, is_reference, is_shown_angle, is_some_text, joined, shown_at, shown_len}
+use Rattle.form_tokens.specs.Characters.{AreChunks, HaltsAt, begins_shown, chunk_at, closes_textarea, goes_on, is_reference, is_shown_angle, is_some_text, joined, shown_at, shown_len}
+use Rattle.form_tokens.specs.Ahead.{IsPart, ends_run}
 use Rattle.form_tokens.specs.Readers.{Fails, ◌>>=◌}
 use Rattle.form_tokens.specs.References.{begins_reference, reference_at}
 use Rattle.form_tokens.specs.Runs.{begins, behind}
@@ -162,7 +163,7 @@ parts_halt place parts text rest (stops.At kind) c g e =
     (m.0, rest, m.1, g, refl, e)
 
 -- where neither a character nor a `&` stands, nothing is read
-pub no_chunk : (place : Context) (text : List ℕ) → ends_run place text ≡ true → begins 38 text ≡ false → chunk_at place text ≡ Err Lexical
+pub no_chunk : (place : Context) (text : List ℕ) → ends_run false place text ≡ true → begins 38 text ≡ false → chunk_at place text ≡ Err Lexical
 unfolding chunk_at shown_at
 no_chunk place text h e =
     let none : begins_shown place text ≡ false = only (begins 38 text) (begins_shown place text) h e in
@@ -192,3 +193,11 @@ ampersand_some place (b ∷ bs) h e = go (b == 38) refl h e
         let shown : begins_shown place (b ∷ bs) ≡ true = ap (λ x. if x then not (begins_reference bs) else (if b == 60 then is_shown_angle place (b ∷ bs) else not (b == 0))) is ∙ none (begins_reference bs) i in
         omega (arith, shown_here place b bs shown)
     go false is h i = absurd (cc)
+
+-- a run that passes each `&` has all characters
+pub passed_all : (place : Context) (text : List ℕ) (count : ℕ) → shown_len place text ≡ count + shown_len place (drop count text) → ends_run true place (drop count text) ≡ true → count ≡ shown_len place text
+passed_all place text count e h = let none : shown_len place (drop count text) ≡ 0 = shown_none place (drop count text) (flip (begins_shown place (drop count text)) h) in omega (arith, e, none)
+  where
+    flip : (b : Bool) → not b ≡ true → b ≡ false
+    flip true i = absurd (cc)
+    flip false i = refl

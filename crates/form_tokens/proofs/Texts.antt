@@ -2,10 +2,13 @@
 use Rattle.std.proofs.Common.{◌≡◌, ℕ, zero, suc, ◌+◌, ◌-◌, ◌<◌, ◌≤◌, List, [], ◌∷◌, take, drop, get_or, slice_index, min, codes, length, Bool, true, false, not, cond, refl, ap, subst, ◌∙◌, arith, if◌then◌else◌, ◌==◌, ◌||◌}
 use Rattle.std.specs.List.{prefix_len}
 use Rattle.memchr.specs.Find.{OccursAt}
+use Rattle.std.proofs.lemmas.List.Sums.{prefix_len_passes}
 use Rattle.std.proofs.lemmas.List.{get_or-take, length-take}
 use Rattle.std.proofs.lemmas.Bool.Decides.{nat_tests}
 use Rattle.form_tokens.specs.References.{begins_reference}
-use Rattle.form_tokens.specs.Characters.{IsClear, begins_shown, closes_textarea, is_other, is_shown_angle, shown_len}
+use Rattle.form_tokens.specs.Characters.{begins_shown, closes_textarea, is_shown_angle, shown_len}
+use Rattle.form_tokens.specs.Ahead.{IsClear}
+use Rattle.form_tokens.specs.Runs.{is_other}
 use Rattle.form_tokens.specs.declared.chunk.Context.{Context}
 use Rattle.form_tokens.proofs.Angles.{no_solidus}
 use Rattle.form_tokens.specs.declared.chunk.Context.TheVariants as contexts
@@ -153,3 +156,11 @@ some_before (suc n) b bs lt e = go (b == 38) e
     go : (t : Bool) → t ≡ false → 0 < cond (not t) (1 + prefix_len (is_other 38) (take n bs)) 0
     go true f = absurd (cc)
     go false f = omega arith
+
+-- no `</` begins before the byte in front of the first `/`
+pub no_end_before : (b k : ℕ) (behind : List ℕ) → k < prefix_len (is_other 47) behind → OccursAt (b ∷ behind) (codes "</") k → ⊥
+no_end_before b k behind lt h =
+    let one : suc k ≡ k + 1 = omega arith in
+    let solidus : get_or behind k 0 ≡ 47 = ap (λ i. slice_index (b ∷ behind) i) one ∙ h.reads 1 (omega arith) in
+    let other : is_other 47 (get_or behind k 0) ≡ true = prefix_len_passes (is_other 47) behind k 0 lt in
+    absurd (let no : is_other 47 47 ≡ true = subst (λ x. is_other 47 x ≡ true) solidus other in cc)

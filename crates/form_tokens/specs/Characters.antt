@@ -1,6 +1,6 @@
 -- Characters as they are written, and references, decoded.
 use Rattle.std.specs.Char.{encode_utf8}
-use Rattle.std.specs.Prelude.{Bool, Err, List, Ok, Result, [], codes, drop, false, if◌then◌else◌, length, nat_lt, not, suc, take, true, zero, ℕ, ◌&&◌, ◌++◌, ◌==◌, ◌||◌, ◌<◌, ◌≡◌, ◌≤◌, ◌⊎◌, ◌∷◌}
+use Rattle.std.specs.Prelude.{Bool, Err, List, Ok, Result, [], codes, drop, false, if◌then◌else◌, length, nat_lt, not, suc, take, true, ℕ, ◌&&◌, ◌++◌, ◌==◌, ◌||◌, ◌≡◌, ◌∷◌}
 use Rattle.std.specs.Str.{str_eq_ignore_ascii_case}
 use Rattle.form_tokens.specs.Bytes.{ampersand, greater_than, less_than, solidus}
 use Rattle.form_tokens.specs.Readers.{many, ◌>>=◌}
@@ -40,10 +40,6 @@ begins_shown place (b ∷ bs) =
     if b == ampersand then not (begins_reference bs)
     else (if b == less_than then is_shown_angle place (b ∷ bs) else not (b == 0))
 
--- no character that needs no further look stands at the front
-abbrev pub ends_run : Context → List ℕ → Bool
-ends_run place text = begins ampersand text || not (begins_shown place text)
-
 -- how many bytes of such characters stand at the front
 abbrev pub shown_len : Context → List ℕ → ℕ
 shown_len place [] = 0
@@ -65,16 +61,6 @@ unfoldable pub chunk_at : Context → List ℕ → Result (List ℕ × List ℕ)
 chunk_at place text =
     if is_reference text then (behind ampersand text >>= reference_at >>= λ x. Ok (encode_utf8 x.0, x.1))
     else shown_at place text
-
--- another byte than this
-abbrev pub is_other : ℕ → ℕ → Bool
-is_other byte b = not (b == byte)
-
--- so many bytes stand at the front that are characters, or `&`
-abbrev pub IsClear : Context → ℕ → List ℕ → Type 0
-IsClear place zero text = Unit {0}
-IsClear place (suc n) [] = ⊥
-IsClear place (suc n) (b ∷ bs) = ((b == ampersand || begins_shown place (b ∷ bs)) ≡ true) × IsClear place n bs
 
 abbrev pub is_some_text : List ℕ → Bool
 is_some_text text = nat_lt 0 (length text)
@@ -99,12 +85,6 @@ AreChunks place [] text rest = text ≡ rest
 AreChunks place (chunk ∷ chunks) text rest =
     (between : List ℕ) × (goes_on place text ≡ true) × (chunk_at place text ≡ Ok (chunk, between))
     × AreChunks place chunks between rest
-
--- These bytes stand at the front, and the rest behind them: some of the characters there, or the one of a reference.
-abbrev pub IsPart : Context → List ℕ → List ℕ → List ℕ → Type 0
-IsPart place text bytes rest =
-    ((k : ℕ) × (0 < k) × (k ≤ shown_len place text) × (bytes ≡ take k text) × (rest ≡ drop k text))
-    ⊎ (chunk_at place text ≡ Ok (bytes, rest))
 
 -- All characters and references at the front of the text are read, and the rest stands behind them.
 abbrev pub IsReadTo : Context → List (List ℕ) → List ℕ → List ℕ → Type 0

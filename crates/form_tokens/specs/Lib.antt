@@ -5,3 +5,4 @@ pub mod References
 pub mod Characters
 pub mod Attributes
 pub mod Kept
+pub mod Ahead

@@ -68,3 +68,7 @@ run_at class text =
 -- what stands behind whitespace, of which there may be none
 abbrev pub behind_space : List ℕ → List ℕ
 behind_space text = drop (run_len classes.Space text) text
+
+-- another byte than this
+abbrev pub is_other : ℕ → ℕ → Bool
+is_other byte b = not (b == byte)

@@ -5,23 +5,21 @@ ghost use Rattle.form_tokens.specs.declared.chunk.Context.{Context};
 ghost use Rattle.std.specs.List.{prefix_len};
 ghost use Rattle.form_tokens.specs.Readers.{Fails, Gives};
 ghost use Rattle.form_tokens.specs.Bytes.{ampersand};
-ghost use Rattle.form_tokens.specs.Characters.{HaltsIn, IsClear, IsPart, IsReadTo, begins_shown, chunk_at, chunk_of, closes_textarea, decoded, ends_name, ends_run, goes_on, is_other, is_reference, is_shown_angle, joined, shown_len};
-ghost use Rattle.form_tokens.specs.Runs.{begins, begins_so, in_class};
+ghost use Rattle.form_tokens.specs.Characters.{HaltsIn, IsReadTo, begins_shown, chunk_at, chunk_of, closes_textarea, decoded, ends_name, goes_on, is_reference, is_shown_angle, joined, shown_len};
+ghost use Rattle.form_tokens.specs.Ahead.{IsClear, IsPart, ends_run};
+ghost use Rattle.form_tokens.specs.Runs.{begins, begins_so, in_class, is_other};
 ghost use Rattle.form_tokens.specs.declared.class.Class.TheVariants as classes;
 ghost use Rattle.form_tokens.specs.declared.chunk.Context.TheVariants as contexts;
 ghost use Rattle.form_tokens.specs.References.{begins_named, begins_reference};
 
+use crate::ahead::some_clear;
 use crate::chunk::{Chunk, Context};
 use crate::class::Class;
 use crate::cursor::{after_byte, before, begins, run_len};
 use crate::fault::{Fault, Halt, Stop};
 use crate::references::{common_of, reference_of};
 use form_text::Text;
-use memchr::memmem::find;
 use std::alloc::{AllocError, Global};
-
-// So far one looks at most, before the bytes are used, for what ends characters.
-const LOOK_AHEAD: usize = 4_096;
 
 fn begins_byte(bytes: &[u8], byte: u8) -> bool
     ensures { result ≡ begins byte bytes.now }
@@ -88,9 +86,9 @@ fn begins_end_of_name(bytes: &[u8]) -> bool
     }
 }
 
-/// Whether the end tag of a textarea, or what seems to be one, stands at the front.
+// Whether the end tag of a textarea, or what seems to be one, stands at the front.
 #[tactic(auto, using(crate::proofs::Angles::no_solidus), unfolding(crate::specs::Characters::closes_textarea))]
-pub fn closes_textarea(bytes: &[u8]) -> bool
+fn closes_textarea(bytes: &[u8]) -> bool
     ensures { result ≡ closes_textarea bytes.now }
 {
     if bytes.len() < 10 {
@@ -118,80 +116,6 @@ fn is_shown_angle(context: Context, bytes: &[u8]) -> bool
     }
 }
 
-// One more than these places, unless that is past the end.
-fn one_more(near: usize, len: usize) -> usize
-    requires { near ≤ len }
-    ensures { result ≡ min (near + 1) len }
-{
-    if near < len {
-        return near + 1;
-    }
-    len
-}
-
-// How many of the next bytes stand before the first `</`: what stands before it and before the first
-// U+0000 is clear in a textarea.
-fn before_end_tag(bytes: &[u8], near: usize) -> usize
-    requires { near ≤ length bytes.now }
-    ensures bound { result ≤ near }
-    ensures clear { (n : ℕ) → n ≤ result → n ≤ prefix_len (is_other 0) bytes.now
-        → IsClear contexts.Textarea n bytes.now }
-{
-    let (front, _) = bytes.split_at(one_more(near, bytes.len()));
-    match find(front, b"</") {
-        Some(place) => usize::min(place, near),
-        None => near,
-    }
-}
-
-// How many of the next bytes stand before the first `<`: what stands before it and before the first
-// U+0000 is clear.
-fn before_angle(context: Context, bytes: &[u8], near: usize) -> usize
-    requires { near ≤ length bytes.now }
-    ensures bound { result ≤ near }
-    ensures clear { (n : ℕ) → n ≤ result → n ≤ prefix_len (is_other 0) bytes.now
-        → IsClear context n bytes.now }
-{
-    let (front, _) = bytes.split_at(near);
-    before(b'<', front)
-}
-
-// How many of the next bytes stand before the first `<` that may be no character: what stands before it
-// and before the first U+0000 is clear.
-fn before_stop(context: Context, bytes: &[u8], near: usize) -> usize
-    requires { near ≤ length bytes.now }
-    ensures bound { result ≤ near }
-    ensures clear { (n : ℕ) → n ≤ result → n ≤ prefix_len (is_other 0) bytes.now
-        → IsClear context n bytes.now }
-{
-    match context {
-        Context::Value => near,
-        Context::Content => before_angle(context, bytes, near),
-        Context::Textarea => before_end_tag(bytes, near),
-    }
-}
-
-// How many bytes at the front are characters or `&`, as far as one looks.
-fn clear_len(context: Context, bytes: &[u8]) -> usize
-    ensures { IsClear context result bytes.now }
-{
-    let near = usize::min(LOOK_AHEAD, bytes.len());
-    let (front, _) = bytes.split_at(before_stop(context, bytes, near));
-    before(0, front)
-}
-
-// How many bytes at the front are clear: those that are known, or else as far as one looks.
-#[inline(always)]
-fn some_clear(context: Context, bytes: &[u8], clear: usize) -> usize
-    requires { IsClear context clear bytes.now }
-    ensures { IsClear context result bytes.now }
-{
-    if clear > 0 {
-        return clear;
-    }
-    clear_len(context, bytes)
-}
-
 // Whether the byte at the front, which is no `&`, is a character.
 fn begins_shown(context: Context, first: u8, bytes: &[u8]) -> bool
     requires first { (rest : List ℕ) × (bytes.now ≡ first ∷ rest) }
@@ -204,22 +128,25 @@ fn begins_shown(context: Context, first: u8, bytes: &[u8]) -> bool
     first != 0
 }
 
-// How many bytes of characters stand at the front, one or as many as need no further look, none at a `&`;
-// and how many bytes behind them are clear.
+// How many bytes of characters stand at the front, one or as many as need no further look; and how many
+// bytes behind them are clear. A `&` that begins no reference is one of them where it is to be passed.
 #[inline(always)]
-fn shown_step(context: Context, bytes: &[u8], clear: usize) -> (usize, usize)
+fn shown_step(context: Context, bytes: &[u8], clear: usize, passes: bool) -> (usize, usize)
     requires { IsClear context clear bytes.now }
     ensures value { shown_len context bytes.now
         ≡ result.0 + shown_len context (drop result.0 bytes.now) }
-    ensures none { result.0 ≡ 0 → ends_run context bytes.now ≡ true }
+    ensures none { result.0 ≡ 0 → ends_run passes context bytes.now ≡ true }
     ensures bound { result.0 ≤ length bytes.now }
     ensures clear { IsClear context result.1 (drop result.0 bytes.now) }
 {
-    let Some((first, _)) = bytes.split_first() else {
+    let Some((first, rest)) = bytes.split_first() else {
         return (0, 0);
     };
     if *first == b'&' {
-        return (0, clear);
+        if !passes || begins_reference(rest) {
+            return (0, clear);
+        }
+        return (1, clear.saturating_sub(1));
     }
     let clear = some_clear(context, bytes, clear);
     if clear == 0 {
@@ -234,14 +161,14 @@ fn shown_step(context: Context, bytes: &[u8], clear: usize) -> (usize, usize)
     (count, clear - count)
 }
 
-// How many bytes of characters stand at the front, up to the first `&`, and how many bytes behind them
-// are clear.
+// How many bytes of characters stand at the front, all of them or those up to the first `&`, and how many
+// bytes behind them are clear.
 #[inline(always)]
-fn shown_run(context: Context, bytes: &[u8], clear: usize) -> (usize, usize)
+fn shown_run(context: Context, bytes: &[u8], clear: usize, passes: bool) -> (usize, usize)
     requires { IsClear context clear bytes.now }
     ensures value { shown_len context bytes.now
         ≡ result.0 + shown_len context (drop result.0 bytes.now) }
-    ensures ends { ends_run context (drop result.0 bytes.now) ≡ true }
+    ensures ends { ends_run passes context (drop result.0 bytes.now) ≡ true }
     ensures bound { result.0 ≤ length bytes.now }
     ensures clear { IsClear context result.1 (drop result.0 bytes.now) }
 {
@@ -249,7 +176,7 @@ fn shown_run(context: Context, bytes: &[u8], clear: usize) -> (usize, usize)
     let mut clear = clear;
     'steps: while done < bytes.len() {
         let (_, rest) = bytes.split_at(done);
-        let (count, left) = shown_step(context, rest, clear);
+        let (count, left) = shown_step(context, rest, clear, passes);
         if count == 0 {
             return (done, left);
         }
@@ -269,54 +196,12 @@ fn run_part(context: Context, text: &str, clear: usize) -> Result<(Chunk<'_>, &s
     ensures clear { IfOk result (λ x. IsClear context x.2 x.1.now) }
     ensures halt { IfErr result (λ stop. Fails stop (chunk_at context text.now)) }
 {
-    let (count, left) = shown_run(context, text.as_bytes(), clear);
+    let (count, left) = shown_run(context, text.as_bytes(), clear, false);
     if count == 0 {
         return Err(Stop::At(Fault::Lexical));
     }
     let (shown, rest) = text.split_at(count);
     Ok((Chunk::Run(shown), rest, left))
-}
-
-// The same, where a `&` that begins no reference is one of the characters.
-fn any_step(context: Context, bytes: &[u8], clear: usize) -> (usize, usize)
-    requires { IsClear context clear bytes.now }
-    ensures value { shown_len context bytes.now
-        ≡ result.0 + shown_len context (drop result.0 bytes.now) }
-    ensures none { result.0 ≡ 0 → begins_shown context bytes.now ≡ false }
-    ensures bound { result.0 ≤ length bytes.now }
-    ensures clear { IsClear context result.1 (drop result.0 bytes.now) }
-{
-    let Some((first, rest)) = bytes.split_first() else {
-        return (0, 0);
-    };
-    if *first != b'&' {
-        return shown_step(context, bytes, clear);
-    }
-    if begins_reference(rest) {
-        return (0, clear);
-    }
-    (1, clear.saturating_sub(1))
-}
-
-// How many bytes of characters stand at the front, and how many bytes behind them are clear.
-fn shown_len(context: Context, bytes: &[u8], clear: usize) -> (usize, usize)
-    requires { IsClear context clear bytes.now }
-    ensures value { result.0 ≡ shown_len context bytes.now }
-    ensures bound { result.0 ≤ length bytes.now }
-    ensures clear { IsClear context result.1 (drop result.0 bytes.now) }
-{
-    let mut done = 0;
-    let mut clear = clear;
-    'steps: while done < bytes.len() {
-        let (_, rest) = bytes.split_at(done);
-        let (count, left) = any_step(context, rest, clear);
-        if count == 0 {
-            return (done, left);
-        }
-        done += count;
-        clear = left;
-    }
-    (done, clear)
 }
 
 // All characters behind a `&` that begins no reference, and it; what stands behind them, and how much of
@@ -330,7 +215,7 @@ fn ampersand_part(context: Context, text: &str, clear: usize) -> (Chunk<'_>, &st
     ensures utf8 { IsUtf8 result.1.now }
     ensures clear { IsClear context result.2 result.1.now }
 {
-    let (count, left) = shown_len(context, text.as_bytes(), clear);
+    let (count, left) = shown_run(context, text.as_bytes(), clear, true);
     let (shown, rest) = text.split_at(count);
     (Chunk::Run(shown), rest, left)
 }
@@ -414,8 +299,9 @@ fn part_of<'a>(
     }
 }
 
-// Whether there are more characters.
-fn goes_on(context: Context, text: &str) -> bool
+/// Whether characters stand at the front: not a tag, nor the end tag of the textarea, nor the end of the
+/// text.
+pub fn goes_on(context: Context, text: &str) -> bool
     ensures { result ≡ goes_on context text.now }
 {
     match context {
@@ -456,7 +342,7 @@ fn write_chunk(
 
 /// Writes the characters and references at the front of a text behind what was written, decoded, and
 /// gives what stands behind them: a tag, the end tag of the textarea, or nothing where the value ends.
-/// An error says where it stopped.
+/// An error says where it stopped, unless memory was refused; of what was written then nothing is said.
 pub fn write_text<'a>(out: &mut String, context: Context, text: &'a str) -> Result<&'a str, Halt>
     ensures value { IfOk result (λ rest. (chunks : List (List ℕ))
         × IsReadTo context chunks text.now rest.now

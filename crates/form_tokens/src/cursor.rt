@@ -2,9 +2,8 @@
 ghost use Rattle.std.specs.Prelude.{◌≡◌, ◌≤◌, ◌<◌, length, take, drop, ◌==◌};
 ghost use Rattle.std.specs.Char.{is_ascii_alphabetic};
 ghost use Rattle.std.specs.List.{prefix_len};
-ghost use Rattle.form_tokens.specs.Characters.{is_other};
 ghost use Rattle.form_tokens.specs.Readers.{Gives};
-ghost use Rattle.form_tokens.specs.Runs.{IsLow, behind, behind_space, begins, begins_so, in_class, run_at, run_len};
+ghost use Rattle.form_tokens.specs.Runs.{IsLow, begins, begins_so, behind, behind_space, in_class, is_other, run_at, run_len};
 ghost use Rattle.form_tokens.specs.Attributes.{begins_attribute};
 ghost use Rattle.form_tokens.specs.declared.class.Class.TheVariants as classes;
 

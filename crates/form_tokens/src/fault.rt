@@ -36,7 +36,8 @@ impl<T: Drop> From<AllocFailed<T>> for Stop {
     }
 }
 
-/// Why reading stopped behind other pieces, and how many bytes of the text were left there.
+/// Why reading stopped behind other pieces, and how many bytes of the text were left there; where memory
+/// was refused the number says nothing.
 #[derive(Drop)]
 pub struct Halt {
     pub stop: Stop,

@@ -5,6 +5,7 @@
 //! of pieces, or memory was refused.
 #![tactic(auto)]
 
+mod ahead;
 mod attributes;
 mod characters;
 mod chunk;
@@ -14,10 +15,10 @@ mod fault;
 mod references;
 
 pub use attributes::{Attributes, attributes_of};
-pub use characters::{closes_textarea, write_text};
+pub use characters::{goes_on, write_text};
 pub use chunk::Context;
 pub use class::Class;
-pub use cursor::{after_byte, begins, begins_letter, behind_space, run_of};
+pub use cursor::{after_byte, before, begins, begins_letter, behind_space, run_of};
 pub use fault::{Fault, Halt, Stop};
 
 /// The most attributes of a tag, counted as they are written.

@@ -1,5 +1,5 @@
 use Rattle.std.proofs.Common.{subst, sym}
-use Rattle.form_markup.specs.Answer.{Answering}
+use Rattle.form_markup.specs.Goes.{Answering}
 use Rattle.form_markup.specs.Machine.{State}
 use Rattle.form_markup.proofs.AnswerLaws.{answer_begun}
 use Rattle.form_markup.proofs.page.read_raws.Goals as goal

@@ -1,7 +1,7 @@
 use Rattle.std.proofs.Common.{length}
 use denote.Shadow.{shadow}
 use denote.Text.{Utf8}
-use Rattle.form_markup.specs.Answer.{Answering}
+use Rattle.form_markup.specs.Goes.{Answering}
 use Rattle.form_markup.specs.Machine.{state_of}
 use Rattle.form_markup.proofs.page.read_raws.Given as goal
 

@@ -1,5 +1,5 @@
 use Rattle.std.proofs.Common.{◌≡◌, ℕ, ◌-◌, List, drop, length, subst, sym}
-use Rattle.form_tokens.specs.Characters.{IsClear}
+use Rattle.form_tokens.specs.Ahead.{IsClear}
 use Rattle.form_tokens.proofs.Behind.{reference_behind}
 use Rattle.form_tokens.proofs.Texts.{clear_behind}
 use Rattle.form_tokens.proofs.characters.reference_part.Goals as goal

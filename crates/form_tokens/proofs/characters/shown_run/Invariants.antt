@@ -1,5 +1,6 @@
 use Rattle.std.proofs.Common.{◌≡◌, ◌+◌, ◌-◌, ◌≤◌, drop, length}
-use Rattle.form_tokens.specs.Characters.{IsClear, shown_len}
+use Rattle.form_tokens.specs.Characters.{shown_len}
+use Rattle.form_tokens.specs.Ahead.{IsClear}
 use Rattle.form_tokens.proofs.characters.shown_run.Given as goal
 
 abbrev pub invariant-steps : goal.invariant-steps

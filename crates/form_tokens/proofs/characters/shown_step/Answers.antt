@@ -1,6 +1,6 @@
 use Rattle.std.proofs.Common.{◌≤◌, arith}
 use Rattle.std.specs.List.{prefix_len}
-use Rattle.form_tokens.specs.Characters.{is_other}
+use Rattle.form_tokens.specs.Runs.{is_other}
 use Rattle.form_tokens.proofs.Texts.{clear_behind, clear_shown, clear_within, taken}
 use Rattle.form_tokens.proofs.characters.shown_step.Goals as goal
 

@@ -1,7 +1,8 @@
 use Rattle.std.proofs.Common.{◌≡◌, ◌++◌, ℕ, List, length, string_bytes}
 use denote.Text.{Utf8}
 use denote.Shadow.{shadow}
-use Rattle.form_tokens.specs.Characters.{IsClear, joined}
+use Rattle.form_tokens.specs.Characters.{joined}
+use Rattle.form_tokens.specs.Ahead.{IsClear}
 use Rattle.form_tokens.proofs.Parts.{AreParts}
 use Rattle.form_tokens.proofs.characters.write_text.Given as goal
 

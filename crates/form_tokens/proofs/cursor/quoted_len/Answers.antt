@@ -1,6 +1,6 @@
 use Rattle.std.proofs.Common.{◌∙◌, ap, take}
 use Rattle.std.specs.List.{prefix_len}
-use Rattle.form_tokens.specs.Characters.{is_other}
+use Rattle.form_tokens.specs.Runs.{is_other}
 use Rattle.form_tokens.proofs.Numbers.{quoted_both}
 use Rattle.form_tokens.proofs.cursor.quoted_len.Goals as goal
 

@@ -1,8 +1,8 @@
 use Rattle.std.proofs.Common.{◌≤◌, arith}
 use Rattle.std.specs.List.{prefix_len}
-use Rattle.form_tokens.specs.Characters.{is_other}
+use Rattle.form_tokens.specs.Runs.{is_other}
 use Rattle.form_tokens.proofs.Texts.{clear_plain, taken}
-use Rattle.form_tokens.proofs.characters.before_angle.Goals as goal
+use Rattle.form_tokens.proofs.ahead.before_angle.Goals as goal
 
 pub returns-clause-clear : goal.returns-clause-clear
 returns-clause-clear c = λ n le g.

@@ -1,8 +1,8 @@
 use Rattle.std.proofs.Common.{◌≤◌, arith}
 use Rattle.std.specs.List.{prefix_len}
 use Rattle.form_tokens.proofs.Texts.{taken}
-use Rattle.form_tokens.specs.Characters.{is_other}
-use Rattle.form_tokens.proofs.characters.clear_len.Goals as goal
+use Rattle.form_tokens.specs.Runs.{is_other}
+use Rattle.form_tokens.proofs.ahead.clear_len.Goals as goal
 
 pub returns : goal.returns
 returns c =

@@ -2,7 +2,7 @@
 use Rattle.std.proofs.Common.{◌≡◌, ℕ, ◌<◌, ◌≤◌, nat_le, ◌||◌, ◌&&◌, List, [], ◌∷◌, length, if◌then◌else◌, Bool, true, false, refl, sym, ap, ◌∙◌, arith}
 use Rattle.form_tree.specs.declared.node.Tag.{Tag}
 use Rattle.form_tree.specs.declared.node.Tag.TheVariants as tags
-use Rattle.form_markup.specs.Names.{is_among, refused_names, tag_in, tag_named, tag_table}
+use Rattle.form_markup.specs.Names.{is_among, refused_names, tag_in, tag_named, tag_table, void_names}
 use Rattle.std.specs.Str.{str_eq_ignore_ascii_case, str_to_ascii_lowercase}
 use Rattle.std.specs.Char.{to_ascii_lowercase}
 use Rattle.std.proofs.lemmas.Bool.Decides.{nat_tests}
@@ -37,6 +37,9 @@ short_none n name (word ∷ words) short long = go (short_none n name words shor
 
 pub short_allowed : (name : List ℕ) → length name < 3 → is_among refused_names name ≡ false
 short_allowed name short = short_none 3 name refused_names short refl
+
+pub short_closed : (name : List ℕ) → length name < 2 → is_among void_names name ≡ false
+short_closed name short = short_none 2 name void_names short refl
 
 -- no word of a row is shorter
 abbrev all_long_rows : ℕ → List (List ℕ × Tag) → Bool

@@ -37,7 +37,7 @@ fn tag_piece<'a>(name: &'a str, attributes: Attributes) -> Found<'a>
 fn tag_end<'a>(name: &str, text: &'a str) -> Result<&'a str, Stop>
     ensures { Gives (λ x. x.now) result (tag_end name.now text.now) }
 {
-    if is_void(name) && begins(text, b'/') {
+    if begins(text, b'/') && is_void(name) {
         let rest = after_byte(text, b'/')?;
         return after_byte(rest, b'>');
     }
@@ -48,7 +48,7 @@ fn tag_end<'a>(name: &str, text: &'a str) -> Result<&'a str, Stop>
 fn behind_tag<'a>(name: &str, rest: &'a str) -> &'a str
     ensures { result.now ≡ behind_tag name.now rest.now }
 {
-    if is_textarea(name) && begins(rest, b'\n') {
+    if begins(rest, b'\n') && is_textarea(name) {
         let (_, behind) = rest.split_at(1);
         return behind;
     }

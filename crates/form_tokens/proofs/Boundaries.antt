@@ -1,5 +1,5 @@
 -- Where the text may be cut.
-use Rattle.std.proofs.Common.{◌≡◌, ℕ, ◌+◌, ◌<◌, ◌≤◌, List, [], ◌∷◌, length, get_or, Bool, true, false, refl, sym, subst, arith, zero, suc, inl, inr, ◌⊎◌, if◌then◌else◌, ◌==◌, not}
+use Rattle.std.proofs.Common.{◌≡◌, ℕ, ◌+◌, ◌<◌, ◌≤◌, List, [], ◌∷◌, drop, length, get_or, Bool, true, false, refl, sym, subst, arith, zero, suc, inl, inr, ◌⊎◌, if◌then◌else◌, ◌==◌, not}
 use Rattle.std.specs.List.{prefix_len}
 use Rattle.std.specs.Str.{IsUtf8, IsCharBoundary}
 use Rattle.std.proofs.lemmas.Bool.{cases_lt}
@@ -100,3 +100,15 @@ shown_boundary place bs n e = at_end_or (cases_lt n (length bs))
     at_end_or : (n < length bs) ⊎ (length bs ≤ n) → IsCharBoundary bs n
     at_end_or (inl lt) = IsCharBoundary-before_ascii bs n lt (subst (λ k. get_or bs k 0 < 128) (sym e) (shown_ends place bs (subst (λ k. k < length bs) e lt)))
     at_end_or (inr ge) = let whole : length bs ≡ n = omega (arith, shown_within place bs) in subst (IsCharBoundary bs) whole (IsCharBoundary-end bs)
+
+-- before an ASCII byte
+pub before_byte : (b : ℕ) (bs : List ℕ) (k : ℕ) → b < 128 → begins b (drop k bs) ≡ true → IsCharBoundary bs k
+before_byte b bs k low e =
+    let there = at k bs e in
+    IsCharBoundary-before_ascii bs k there.0 (subst (λ x. x < 128) (sym there.1) low)
+  where
+    at : (k : ℕ) (bs : List ℕ) → begins b (drop k bs) ≡ true → (k < length bs) × (get_or bs k 0 ≡ b)
+    at zero [] e = absurd (cc)
+    at (suc k) [] e = absurd (cc)
+    at zero (x ∷ xs) e = (omega arith, grind (arith, nat_tests))
+    at (suc k) (x ∷ xs) e = let more = at k xs e in (omega (arith, more.0), more.1)

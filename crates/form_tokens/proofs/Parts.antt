@@ -1,15 +1,16 @@
 -- Parts of characters and references make up chunks.
-use Rattle.std.proofs.Common.{◌≡◌, ℕ, zero, suc, ◌+◌, ◌<◌, ◌≤◌, List, [], ◌∷◌, ◌++◌, Result, Ok, Err, Bool, true, false, not, ◌&&◌, ◌||◌, ◌==◌, if◌then◌else◌, take, drop, length, length-drop, nat_lt, refl, sym, ap, subst, ◌∙◌, arith, inl, inr, ◌⊎◌, append_assoc}
+use Rattle.std.proofs.Common.{◌≡◌, ℕ, zero, suc, ◌+◌, ◌<◌, ◌≤◌, List, [], ◌∷◌, ◌++◌, Result, Ok, Err, Bool, true, false, not, ◌&&◌, ◌||◌, ◌==◌, if◌then◌else◌, take, cond, drop, length, length-drop, nat_lt, refl, sym, ap, subst, ◌∙◌, arith, inl, inr, ◌⊎◌, append_assoc, append-nil}
+use Rattle.std.specs.List.{prefix_len}
 use Rattle.std.proofs.Math.Seq.{take-add}
 use Rattle.std.proofs.lemmas.Bool.{cases_lt, lt-ltb}
 use Rattle.std.proofs.lemmas.List.{drop-drop}
 use Rattle.std.proofs.lemmas.Bool.Decides.{nat_tests}
 use Rattle.std.specs.Char.{encode_utf8}
-use Rattle.form_tokens.specs.Characters.{AreChunks, HaltsAt, begins_shown, chunk_at, closes_textarea, goes_on, is_reference, is_shown_angle, is_some_text, joined, shown_at, shown_len}
-use Rattle.form_tokens.specs.Ahead.{IsPart, ends_run}
+use Rattle.form_tokens.specs.Characters.{AreChunks, HaltsAt, IsReadTo, begins_shown, chunk_at, closes_textarea, goes_on, is_reference, is_shown_angle, is_some_text, joined, shown_at, shown_len}
+use Rattle.form_tokens.specs.Ahead.{AreParts, IsClear, IsPart, ends_run}
 use Rattle.form_tokens.specs.Readers.{Fails, ◌>>=◌}
 use Rattle.form_tokens.specs.References.{begins_reference, reference_at}
-use Rattle.form_tokens.specs.Runs.{begins, behind}
+use Rattle.form_tokens.specs.Runs.{begins, behind, is_other}
 use Rattle.form_tokens.specs.declared.chunk.Context.{Context}
 use Rattle.form_tokens.specs.declared.chunk.Context.TheVariants as contexts
 use Rattle.form_tokens.specs.declared.fault.Fault.{Fault}
@@ -19,17 +20,16 @@ use Rattle.form_tokens.specs.declared.fault.Stop.TheVariants as stops
 use Rattle.form_tokens.proofs.Angles.{no_angle}
 use Rattle.form_tokens.proofs.Chunks.{chunk_shorter}
 use Rattle.form_tokens.proofs.Shorter.{shown_within}
-use Rattle.form_tokens.proofs.Texts.{shown_here, shown_none}
+use Rattle.form_tokens.proofs.Texts.{clear_shown, shown_here, shown_none}
 
--- the parts stand one after another at the front of the text, and the rest behind them
-abbrev pub AreParts : Context → List (List ℕ) → List ℕ → List ℕ → Type 0
-AreParts place [] text rest = text ≡ rest
-AreParts place (part ∷ parts) text rest = (between : List ℕ) × (goes_on place text ≡ true) × IsPart place text part between × AreParts place parts between rest
+-- one part
+pub one_part : (place : Context) (text part rest : List ℕ) → goes_on place text ≡ true → IsPart place text part rest → AreParts place (part ∷ []) text rest
+one_part place text part rest g e = (rest, g, e, refl)
 
-pub parts_more : (place : Context) (parts : List (List ℕ)) (text rest behind part : List ℕ) → AreParts place parts text rest → goes_on place rest ≡ true → IsPart place rest part behind → AreParts place (parts ++ (part ∷ [])) text behind
-parts_more place [] text rest behind part c g e =
-    (behind, subst (λ (x : List ℕ). goes_on place x ≡ true) (sym c) g, subst (λ (x : List ℕ). IsPart place x part behind) (sym c) e, refl)
-parts_more place (x ∷ xs) text rest behind part c g e = (c.0, c.1, c.2, parts_more place xs c.0 rest behind part c.3 g e)
+-- more parts behind parts
+pub parts_more : (place : Context) (parts more : List (List ℕ)) (text rest behind : List ℕ) → AreParts place parts text rest → AreParts place more rest behind → AreParts place (parts ++ more) text behind
+parts_more place [] more text rest behind c d = subst (λ (x : List ℕ). AreParts place more x behind) (sym c) d
+parts_more place (x ∷ xs) more text rest behind c d = (c.0, c.1, c.2, parts_more place xs more c.0 rest behind c.3 d)
 
 pub part_shorter : (place : Context) (text part rest : List ℕ) → IsPart place text part rest → length rest < length text
 part_shorter place text part rest (inl run) = omega (arith, ap length run.4, length-drop run.0 text, shown_within place text, run.1, run.2)
@@ -201,3 +201,103 @@ passed_all place text count e h = let none : shown_len place (drop count text) �
     flip : (b : Bool) → not b ≡ true → b ≡ false
     flip true i = absurd (cc)
     flip false i = refl
+
+-- where characters end, none stands
+pub none_on : (place : Context) (text : List ℕ) → goes_on place text ≡ false → shown_len place text ≡ 0
+none_on place text e = go (begins_shown place text) refl
+  where
+    go : (t : Bool) → begins_shown place text ≡ t → shown_len place text ≡ 0
+    go true f = absurd (let on : goes_on place text ≡ true = shown_on place text f in cc)
+    go false f = shown_none place text f
+
+-- characters without a reference are read where they end
+pub run_read : (place : Context) (k : ℕ) (text : List ℕ) → 0 < k → k ≡ shown_len place text → goes_on place (drop k text) ≡ false → IsReadTo place (take k text ∷ []) text (drop k text)
+run_read place k text lt e ends =
+    let some : 0 < shown_len place text = omega (arith, lt, e) in
+    let read : chunk_at place text ≡ Ok (take k text, drop k text) = subst (λ n. chunk_at place text ≡ Ok (take n text, drop n text)) (sym e) (whole_run place text some) in
+    ((drop k text, shown_on place text (begins_some place text some), read, refl), ends)
+
+-- where a byte is clear, characters go on
+pub clear_on : (place : Context) (n : ℕ) (text : List ℕ) → 0 < n → IsClear place n text → goes_on place text ≡ true
+clear_on place zero text lt h = absurd (omega arith)
+clear_on place (suc n) [] lt h = absurd h
+clear_on place (suc n) (b ∷ bs) lt h = go (b == 38) refl h.0
+  where
+    some : (is_some_text (b ∷ bs)) ≡ true
+    some = lt-ltb 0 (length (b ∷ bs)) (omega arith)
+
+    at_ampersand : (place : Context) → b ≡ 38 → goes_on place (b ∷ bs) ≡ true
+    at_ampersand contexts.Value e = some
+    at_ampersand contexts.Content e = and_not (is_some_text (b ∷ bs)) (b == 60) some (grind (arith, nat_tests))
+    at_ampersand contexts.Textarea e = and_not (is_some_text (b ∷ bs)) (closes_textarea (b ∷ bs)) some (no_angle b bs (λ same. absurd (omega (arith, e, same))))
+
+    go : (x : Bool) → b == 38 ≡ x → (x || begins_shown place (b ∷ bs)) ≡ true → goes_on place (b ∷ bs) ≡ true
+    go true e i = at_ampersand place (grind (arith, nat_tests))
+    go false e i = shown_on place (b ∷ bs) i
+
+-- where a `&` stands, characters go on
+pub ampersand_on : (place : Context) (text : List ℕ) → begins 38 text ≡ true → goes_on place text ≡ true
+ampersand_on place [] e = absurd (cc)
+ampersand_on place (b ∷ bs) e = clear_on place 1 (b ∷ bs) (omega arith) (ap (λ t. t || begins_shown place (b ∷ bs)) e, tt)
+
+-- what was written behind what was written
+pub written_more : (bytes : List ℕ) (parts more : List (List ℕ)) → (bytes ++ joined parts) ++ joined more ≡ bytes ++ joined (parts ++ more)
+written_more bytes parts more = append_assoc bytes (joined parts) (joined more) ∙ ap (λ (xs : List ℕ). bytes ++ xs) (sym (joined_both parts more))
+  where
+    joined_both : (parts more : List (List ℕ)) → joined (parts ++ more) ≡ joined parts ++ joined more
+    joined_both [] more = refl
+    joined_both (x ∷ xs) more = ap (λ (ys : List ℕ). x ++ ys) (joined_both xs more) ∙ sym (append_assoc x (joined xs) (joined more))
+
+-- some characters
+pub run_part : (place : Context) (k : ℕ) (text : List ℕ) → 0 < k → shown_len place text ≡ k + shown_len place (drop k text) → IsPart place text (take k text) (drop k text)
+run_part place k text lt e = inl (k, lt, omega (arith, e), refl, refl)
+
+-- characters that are clear, and the reference behind them
+pub run_reference : (place : Context) (k n : ℕ) (text bytes behind : List ℕ) → IsClear place n text → k < n → k ≤ prefix_len (is_other 38) text → begins 38 (drop k text) ≡ true → chunk_at place (drop k text) ≡ Ok (bytes, behind)
+    → ((parts : List (List ℕ)) × AreParts place parts text behind × (take k text ++ bytes ≡ joined parts)) × (length behind < length text)
+run_reference place k n text bytes behind clear lt other ampersand e = go k refl
+  where
+    on : goes_on place text ≡ true
+    on = clear_on place n text (omega (arith, lt)) clear
+
+    second : AreParts place (bytes ∷ []) (drop k text) behind
+    second = one_part place (drop k text) bytes behind (ampersand_on place (drop k text) ampersand) (inr e)
+
+    short : length behind < length (drop k text)
+    short = chunk_shorter place (drop k text) behind bytes e
+
+    within : length (drop k text) ≤ length text
+    within = omega (arith, length-drop k text)
+
+    go : (j : ℕ) → k ≡ j → ((parts : List (List ℕ)) × AreParts place parts text behind × (take k text ++ bytes ≡ joined parts)) × (length behind < length text)
+    go zero is = (
+      (bytes ∷ [], subst (λ m. AreParts place (bytes ∷ []) (drop m text) behind) is second, ap (λ m. take m text ++ bytes) is ∙ sym (append-nil bytes)),
+      omega (arith, short, within),
+    )
+    go (suc j) is =
+        let run : IsPart place text (take k text) (drop k text) = run_part place k text (omega (arith, is)) (clear_shown place k n text clear (omega (arith, lt)) other) in (
+          (take k text ∷ bytes ∷ [], (drop k text, on, run, second), ap (λ (xs : List ℕ). take k text ++ xs) (sym (append-nil bytes))),
+          omega (arith, short, within),
+        )
+
+-- before the first of a kind in a front another stands, or it is there
+pub begins_at : (k n : ℕ) (text : List ℕ) → k ≡ prefix_len (is_other 38) (take n text) → k < n → n ≤ length text → begins 38 (drop k text) ≡ true
+begins_at k zero text e lt le = absurd (omega arith)
+begins_at k (suc n) [] e lt le = absurd (omega arith)
+begins_at k (suc n) (b ∷ bs) e lt le = go (λ j. begins_at j n bs) (b == 38) refl e
+  where
+    go : ((j : ℕ) → j ≡ prefix_len (is_other 38) (take n bs) → j < n → n ≤ length bs → begins 38 (drop j bs) ≡ true)
+        → (t : Bool) → b == 38 ≡ t → k ≡ cond (not t) (1 + prefix_len (is_other 38) (take n bs)) 0 → begins 38 (drop k (b ∷ bs)) ≡ true
+    go again true f h = subst (λ m. begins 38 (drop m (b ∷ bs)) ≡ true) (sym h) f
+    go again false f h =
+        let j : ℕ = prefix_len (is_other 38) (take n bs) in
+        let up : suc j ≡ k = omega (arith, h) in
+        subst (λ m. begins 38 (drop m (b ∷ bs)) ≡ true) up (again j refl (omega (arith, lt, up)) (omega arith))
+
+-- what was written of characters and a reference
+pub written_both : (bytes run c old new : List ℕ) (parts : List (List ℕ)) → old ≡ bytes ++ run → new ≡ old ++ c → run ++ c ≡ joined parts → new ≡ bytes ++ joined parts
+written_both bytes run c old new parts e f g =
+    f ∙ (ap (λ (xs : List ℕ). xs ++ c) e ∙ (append_assoc bytes run c ∙ ap (λ (xs : List ℕ). bytes ++ xs) g))
+
+pub written_one : (bytes run : List ℕ) → bytes ++ run ≡ bytes ++ joined (run ∷ [])
+written_one bytes run = ap (λ (xs : List ℕ). bytes ++ xs) (sym (append-nil run))

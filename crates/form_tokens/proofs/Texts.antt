@@ -1,13 +1,13 @@
 -- Characters that are passed over at once.
-use Rattle.std.proofs.Common.{◌≡◌, ℕ, zero, suc, ◌+◌, ◌-◌, ◌<◌, ◌≤◌, List, [], ◌∷◌, take, drop, get_or, slice_index, min, codes, length, Bool, true, false, not, cond, refl, ap, subst, ◌∙◌, arith, if◌then◌else◌, ◌==◌, ◌||◌}
-use Rattle.std.specs.List.{prefix_len}
+use Rattle.std.proofs.Common.{◌≡◌, ℕ, zero, suc, ◌+◌, ◌-◌, ◌<◌, ◌≤◌, List, [], ◌∷◌, take, drop, get_or, slice_index, min, codes, length, Bool, true, false, not, cond, refl, sym, ap, subst, ◌∙◌, arith, if◌then◌else◌, ◌==◌, ◌||◌}
+use Rattle.std.specs.List.{list_any, prefix_len}
 use Rattle.memchr.specs.Find.{OccursAt}
 use Rattle.std.proofs.lemmas.List.Sums.{prefix_len_passes}
 use Rattle.std.proofs.lemmas.List.{get_or-take, length-take}
 use Rattle.std.proofs.lemmas.Bool.Decides.{nat_tests}
 use Rattle.form_tokens.specs.References.{begins_reference}
 use Rattle.form_tokens.specs.Characters.{begins_shown, closes_textarea, is_shown_angle, shown_len}
-use Rattle.form_tokens.specs.Ahead.{IsClear}
+use Rattle.form_tokens.specs.Ahead.{IsClear, is_loud}
 use Rattle.form_tokens.specs.Runs.{is_other}
 use Rattle.form_tokens.specs.declared.chunk.Context.{Context}
 use Rattle.form_tokens.proofs.Angles.{no_solidus}
@@ -164,3 +164,20 @@ no_end_before b k behind lt h =
     let solidus : get_or behind k 0 ≡ 47 = ap (λ i. slice_index (b ∷ behind) i) one ∙ h.reads 1 (omega arith) in
     let other : is_other 47 (get_or behind k 0) ≡ true = prefix_len_passes (is_other 47) behind k 0 lt in
     absurd (let no : is_other 47 47 ≡ true = subst (λ x. is_other 47 x ≡ true) solidus other in cc)
+
+-- where no byte of a front is a `&` or U+0000, the first of them stands behind the front
+pub quiet_front : (n : ℕ) (text : List ℕ) → n ≤ length text → list_any is_loud (take n text) ≡ false → (n ≤ prefix_len (is_other 0) text) × (n ≤ prefix_len (is_other 38) text)
+quiet_front zero text le e = (omega arith, omega arith)
+quiet_front (suc n) [] le e = absurd (omega arith)
+quiet_front (suc n) (b ∷ bs) le e = go (quiet_front n bs (omega arith)) (b == 38) refl (b == 0) refl e
+  where
+    go : (list_any is_loud (take n bs) ≡ false → (n ≤ prefix_len (is_other 0) bs) × (n ≤ prefix_len (is_other 38) bs))
+        → (x : Bool) → b == 38 ≡ x → (y : Bool) → b == 0 ≡ y → ((x || y) || list_any is_loud (take n bs)) ≡ false
+        → (suc n ≤ cond (not (b == 0)) (1 + prefix_len (is_other 0) bs) 0) × (suc n ≤ cond (not (b == 38)) (1 + prefix_len (is_other 38) bs) 0)
+    go again true f y g h = absurd (cc)
+    go again false f true g h = absurd (cc)
+    go again false f false g h =
+        let more = again h in (
+          subst (λ t. suc n ≤ cond (not t) (1 + prefix_len (is_other 0) bs) 0) (sym g) (omega (arith, more.0)),
+          subst (λ t. suc n ≤ cond (not t) (1 + prefix_len (is_other 38) bs) 0) (sym f) (omega (arith, more.1)),
+        )

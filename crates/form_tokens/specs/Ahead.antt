@@ -1,7 +1,7 @@
 -- What the code knows of the text ahead, and what it takes of it at once; no part of what a text says.
 use Rattle.std.specs.Prelude.{Bool, List, Ok, [], drop, not, suc, take, true, zero, ℕ, ◌&&◌, ◌==◌, ◌||◌, ◌<◌, ◌≡◌, ◌≤◌, ◌⊎◌, ◌∷◌}
 use Rattle.form_tokens.specs.Bytes.{ampersand}
-use Rattle.form_tokens.specs.Characters.{begins_shown, chunk_at, shown_len}
+use Rattle.form_tokens.specs.Characters.{begins_shown, chunk_at, goes_on, shown_len}
 use Rattle.form_tokens.specs.Runs.{begins}
 use Rattle.form_tokens.specs.declared.chunk.Context.{Context}
 
@@ -21,3 +21,14 @@ abbrev pub IsPart : Context → List ℕ → List ℕ → List ℕ → Type 0
 IsPart place text bytes rest =
     ((k : ℕ) × (0 < k) × (k ≤ shown_len place text) × (bytes ≡ take k text) × (rest ≡ drop k text))
     ⊎ (chunk_at place text ≡ Ok (bytes, rest))
+
+-- The parts stand one after another at the front of the text, and the rest behind them.
+abbrev pub AreParts : Context → List (List ℕ) → List ℕ → List ℕ → Type 0
+AreParts place [] text rest = text ≡ rest
+AreParts place (part ∷ parts) text rest =
+    (between : List ℕ) × (goes_on place text ≡ true) × IsPart place text part between
+    × AreParts place parts between rest
+
+-- a byte at which a run may end
+abbrev pub is_loud : ℕ → Bool
+is_loud b = b == ampersand || (b == 0)

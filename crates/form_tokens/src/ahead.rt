@@ -1,7 +1,8 @@
 // How far one may go over characters without a look at each.
-ghost use Rattle.std.specs.Prelude.{◌≤◌, ◌≡◌, ◌+◌, ℕ, length, min};
-ghost use Rattle.std.specs.List.{prefix_len};
-ghost use Rattle.form_tokens.specs.Ahead.{IsClear};
+ghost use Rattle.std.specs.Prelude.{◌≤◌, ◌≡◌, ◌+◌, ℕ, drop, length, min, not, ◌==◌};
+ghost use Rattle.std.specs.List.{list_any, prefix_len};
+ghost use Rattle.form_tokens.specs.Ahead.{IsClear, is_loud};
+ghost use Rattle.form_tokens.specs.Characters.{shown_len};
 ghost use Rattle.form_tokens.specs.Runs.{is_other};
 ghost use Rattle.form_tokens.specs.declared.chunk.Context.TheVariants as contexts;
 
@@ -11,6 +12,9 @@ use memchr::memmem::find;
 
 // So far one looks at most, before the bytes are used, for what ends characters.
 const LOOK_AHEAD: usize = 4_096;
+
+// In a text that is not longer each byte is tested before any is written.
+const FEW: usize = 512;
 
 // One more than these places, unless that is past the end.
 fn one_more(near: usize, len: usize) -> usize
@@ -63,6 +67,7 @@ fn before_angle(context: Context, bytes: &[u8], near: usize) -> usize
 
 // How many of the next bytes stand before the first `<` that may be no character: what stands before it
 // and before the first U+0000 is clear.
+#[inline(always)]
 fn before_stop(context: Context, bytes: &[u8], near: usize) -> usize
     requires { near ≤ length bytes.now }
     ensures bound { result ≤ near }
@@ -95,4 +100,35 @@ pub fn some_clear(context: Context, bytes: &[u8], clear: usize) -> usize
         return clear;
     }
     clear_len(context, bytes)
+}
+
+// 0 where a run of characters may end at the byte: at a `&` and U+0000.
+fn quietness(byte: u8) -> u8
+    ensures { (result == 0) ≡ is_loud byte }
+{
+    u8::min(byte, byte.wrapping_sub(b'&'))
+}
+
+// Whether no byte is a `&` or U+0000. The loop goes over all, so that the compiler makes vectors of it.
+fn is_quiet(bytes: &[u8]) -> bool
+    ensures { result ≡ not (list_any is_loud bytes.now) }
+{
+    let mut least = u8::MAX;
+    for b in bytes {
+        least = u8::min(least, quietness(*b));
+    }
+    least != 0
+}
+
+/// How many bytes at the front are characters and no `&`, where there are few of them before what may end
+/// characters; else 0.
+#[inline(always)]
+pub fn quiet_len(context: Context, bytes: &[u8]) -> usize
+    ensures value { shown_len context bytes.now ≡ result + shown_len context (drop result bytes.now) }
+    ensures bound { result ≤ length bytes.now }
+{
+    let near = usize::min(FEW, bytes.len());
+    let count = before_stop(context, bytes, near);
+    let (front, _) = bytes.split_at(count);
+    if is_quiet(front) { count } else { 0 }
 }

@@ -87,8 +87,12 @@ abbrev pub closed : List Level → List Raw → State
 closed [] raws = state [] raws
 closed (o ∷ os) raws = state os (with_text o.place o.text raws)
 
+-- an element that is open now, without text yet
+abbrev pub opened : ℕ → Tag → List ℕ → Level
+opened place tag name = record { place = place; tag = tag; name = name; text = [] }
+
 abbrev pub level : List Raw → Tagged → Level
-level raws tagged = record { place = length raws; tag = tag_named tagged.name; name = tagged.name; text = [] }
+level raws tagged = opened (length raws) (tag_named tagged.name) tagged.name
 
 abbrev pub with_raw : List Level → List Raw → Tagged → List Raw
 with_raw levels raws tagged = raws ++ (raw_of (parent_of levels) tagged [] ∷ [])

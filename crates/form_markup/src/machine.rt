@@ -17,19 +17,20 @@ ghost use Rattle.form_tokens.specs.Characters.{HaltsIn, IsReadTo, joined};
 use crate::names::{is_refused, is_textarea, tag_named};
 use crate::piece::{Found, Head};
 use crate::raws::Raws;
-use crate::stack::Stack;
+use crate::stack::{Stack, is_narrow};
 use crate::{MOST_DEPTH, MOST_ELEMENTS};
 use form_text::{Sequence, Text, eq_ascii_case};
 use form_tokens::{Context, Fault, Halt};
 use form_tree::{Raw, Tag};
 use std::alloc::{AllocError, Global};
 
-/// An element that is still open: its place, what it is, its name as it is written, and its text
-/// so far.
+/// An element that is still open: its place, what it is, whether it or an open element round it restricts
+/// what stands inside, its name as it is written, and its text so far.
 #[derive(Drop)]
 pub struct Open<'a> {
     pub place: usize,
     pub tag: Tag,
+    pub narrow: bool,
     pub name: &'a str,
     pub text: String,
 }
@@ -38,7 +39,7 @@ pub struct Open<'a> {
 /// no text yet.
 #[derive(Drop)]
 pub struct Machine<'a> {
-    pub stack: Stack<Open<'a>>,
+    pub stack: Stack<'a>,
     pub raws: Raws,
 }
 
@@ -76,19 +77,6 @@ fn has_tag(stack: &[Open<'_>], wanted: Tag) -> bool
     ensures { result ≡ list_any (λ o. is_tag wanted o.tag) stack.now }
 {
     stack.iter().any(|o| o.tag == wanted)
-}
-
-// Whether the elements inside one of the tag are restricted, at any depth.
-fn is_narrow(tag: Tag) -> bool
-    ensures { result ≡ is_narrow tag }
-{
-    tag == Tag::Select || tag == Tag::Optgroup || tag == Tag::Choice
-}
-
-fn has_narrow(stack: &[Open<'_>]) -> bool
-    ensures { result ≡ list_any (λ o. is_narrow o.tag) stack.now }
-{
-    stack.iter().any(|o| is_narrow(o.tag))
 }
 
 fn is_narrow_listed(tags: &[Tag]) -> bool
@@ -161,7 +149,7 @@ impl<'a> Machine<'a> {
     fn is_inside_narrow(&self, around: &[Tag]) -> bool
         ensures { result ≡ list_any is_narrow (round_of around.now self.now) }
     {
-        has_narrow(self.stack.as_slice()) || is_narrow_listed(around)
+        self.stack.has_narrow() || is_narrow_listed(around)
     }
 
     // Whether the parent of the next element has one of the tags.
@@ -337,14 +325,10 @@ impl<'a> Machine<'a> {
         ensures { OnOk result
             (state_of self.new ≡ after (state_of self.old) (Piece.Start (tagged_of head.entry))) }
     {
-        let open = Open {
-            place: self.raws.len(),
-            tag: tag_named(head.name),
-            name: head.name,
-            text: String::new(alloc),
-        };
+        let place = self.raws.len();
+        let name = head.name;
         self.add_raw(alloc, head)?;
-        self.stack.push(open)?;
+        self.stack.push(alloc, place, tag_named(name), name)?;
         Ok(())
     }
 

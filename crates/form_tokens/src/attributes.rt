@@ -6,10 +6,10 @@ ghost use Rattle.form_tokens.specs.Readers.{Gives};
 ghost use Rattle.form_tokens.specs.Kept.{added, kept_at, no_attributes};
 ghost use Rattle.form_tokens.specs.Attributes.{attribute_at, quoted_at, value_at, value_if_there};
 
-use crate::characters::decode;
 use crate::class::Class;
 use crate::cursor::{after_byte, begins, begins_attribute, behind_space, run_of, split_run};
 use crate::fault::Stop;
+use crate::writing::decode;
 use crate::{MOST_ATTRIBUTES, MOST_VALUE};
 use form_text::{Sequence, Text};
 use std::alloc::{AllocError, Global};

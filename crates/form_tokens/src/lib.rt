@@ -13,13 +13,15 @@ mod class;
 mod cursor;
 mod fault;
 mod references;
+mod writing;
 
 pub use attributes::{Attributes, attributes_of};
-pub use characters::{goes_on, write_text};
+pub use characters::goes_on;
 pub use chunk::Context;
 pub use class::Class;
 pub use cursor::{after_byte, before, begins, begins_letter, behind_space, run_of};
 pub use fault::{Fault, Halt, Stop};
+pub use writing::write_text;
 
 /// The most attributes of a tag, counted as they are written.
 pub const MOST_ATTRIBUTES: usize = 64;

@@ -1,7 +1,7 @@
 use Rattle.std.proofs.Common.{ℕ, List, ◌++◌, Ok, sym, ap, ◌∙◌}
 use Rattle.form_tokens.specs.Characters.{joined}
 use Rattle.form_tokens.proofs.Chunks.{decoded_halts, decoded_is}
-use Rattle.form_tokens.proofs.characters.decode.Goals as goal
+use Rattle.form_tokens.proofs.writing.decode.Goals as goal
 
 pub returns-in-Ok : goal.returns-in-Ok
 returns-in-Ok c =

@@ -4,7 +4,7 @@ use denote.Shadow.{shadow}
 use Rattle.form_tokens.specs.Characters.{joined}
 use Rattle.form_tokens.specs.Ahead.{IsClear}
 use Rattle.form_tokens.specs.Ahead.{AreParts}
-use Rattle.form_tokens.proofs.characters.write_parts.Given as goal
+use Rattle.form_tokens.proofs.writing.write_parts.Given as goal
 
 abbrev pub invariant-parts : goal.invariant-parts
 invariant-parts l = ((parts : List (List ℕ)) × AreParts l.context parts l.text l.rest × (string_bytes l.out ≡ string_bytes l.fn.out ++ joined parts) × IsClear l.context l.clear l.rest) × shadow (Utf8 l.rest)

@@ -1,7 +1,7 @@
 use Rattle.std.proofs.Common.{◌<◌, arith}
 use Rattle.form_tokens.proofs.Boundaries.{shown_boundary}
 use Rattle.form_tokens.proofs.Parts.{run_read}
-use Rattle.form_tokens.proofs.characters.quiet_of.Goals as goal
+use Rattle.form_tokens.proofs.writing.quiet_of.Goals as goal
 
 pub split_at-requires : goal.split_at-requires
 split_at-requires c =

@@ -1,7 +1,7 @@
 use Rattle.std.proofs.Common.{ℕ, List, ◌++◌, string_bytes, sym, ap, ◌∙◌}
 use Rattle.form_tokens.specs.Characters.{joined}
 use Rattle.form_tokens.proofs.Parts.{parts_halt, parts_more, parts_read, written_more}
-use Rattle.form_tokens.proofs.characters.write_parts.Goals as goal
+use Rattle.form_tokens.proofs.writing.write_parts.Goals as goal
 
 pub parts-preserved : goal.parts-preserved
 parts-preserved c =

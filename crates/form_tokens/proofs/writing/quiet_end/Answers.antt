@@ -1,7 +1,7 @@
 use Rattle.std.proofs.Common.{◌≡◌, arith, drop, sym}
 use Rattle.form_tokens.specs.Characters.{shown_len}
 use Rattle.form_tokens.proofs.Parts.{none_on}
-use Rattle.form_tokens.proofs.characters.quiet_end.Goals as goal
+use Rattle.form_tokens.proofs.writing.quiet_end.Goals as goal
 
 pub returns-clause-value : goal.returns-clause-value
 returns-clause-value c = λ lt.

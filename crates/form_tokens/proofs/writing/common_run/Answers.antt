@@ -3,7 +3,7 @@ use Rattle.std.specs.Char.{encode_utf8}
 use Rattle.form_tokens.proofs.Boundaries.{before_byte}
 use Rattle.form_tokens.proofs.Parts.{run_reference}
 use Rattle.form_tokens.proofs.Texts.{clear_behind, clear_within}
-use Rattle.form_tokens.proofs.characters.common_run.Goals as goal
+use Rattle.form_tokens.proofs.writing.common_run.Goals as goal
 
 pub clear_run-requires : goal.clear_run-requires
 clear_run-requires c = rw c.as_bytes.ensures.value (clear_within c.args.context c.args.clear c.args.text.now c.requires)

@@ -2,7 +2,7 @@ use Rattle.std.proofs.Common.{◌∷◌, ◌∙◌, []}
 use Rattle.std.specs.Char.{encode_utf8}
 use Rattle.form_tokens.specs.Characters.{chunk_of}
 use Rattle.form_tokens.proofs.Parts.{one_part, part_shorter, written_both, written_one}
-use Rattle.form_tokens.proofs.characters.write_some.Goals as goal
+use Rattle.form_tokens.proofs.writing.write_some.Goals as goal
 
 pub returns-in-Some-clause-parts : goal.returns-in-Some-clause-parts
 returns-in-Some-clause-parts c = (

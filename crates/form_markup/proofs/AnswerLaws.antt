@@ -92,20 +92,6 @@ no_bytes (b ∷ bs) e = absurd (omega arith)
 pub answer_end : (around : List Tag) (text rest : List ℕ) (m : State) → Answering around text m rest → length rest ≡ 0 → answer_of around text ≡ end_answer (length text) m.levels m.raws
 answer_end around text rest m a e = sym a.same ∙ ap (rest_answer a.fuel around (length text) m) (no_bytes rest e)
 
-pub answer_open : (around : List Tag) (text rest : List ℕ) (m : State) → Answering around text m rest → length rest ≡ 0 → 0 < length m.levels → answer_of around text ≡ Err (pages.Nesting (length text))
-answer_open around text rest m a e lt = answer_end around text rest m a e ∙ go m.levels lt
-  where
-    go : (os : List Level) → 0 < length os → end_answer (length text) os m.raws ≡ Err (pages.Nesting (length text))
-    go [] l = absurd (omega arith)
-    go (o ∷ os) l = refl
-
-pub answer_closed : (around : List Tag) (text rest : List ℕ) (m : State) → Answering around text m rest → length rest ≡ 0 → length m.levels ≡ 0 → answer_of around text ≡ Ok m.raws
-answer_closed around text rest m a e none = answer_end around text rest m a e ∙ go m.levels none
-  where
-    go : (os : List Level) → length os ≡ 0 → end_answer (length text) os m.raws ≡ Ok m.raws
-    go [] l = refl
-    go (o ∷ os) l = absurd (omega arith)
-
 -- what a call gave is what the text spells, or its first fault
 pub answers_read : (around : List Tag) (text : List ℕ) (result : Result (List Raw) PageFault) → Answers {X = List Raw} (λ raws. raws) (answer_of around text) result → IsRead around text result
 answers_read around text (Ok raws) h = subst (IsRead around text) h (answer_read around text)

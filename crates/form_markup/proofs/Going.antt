@@ -153,17 +153,3 @@ failed around text rest m (stops.At faults.Nesting) g lt e = stopped around text
 pub no_rest : (rest : List ℕ) → length rest ≡ 0 → rest ≡ []
 no_rest [] e = refl
 no_rest (b ∷ bs) e = absurd (omega arith)
-
-pub end_open : (around : List Tag) (text rest : List ℕ) (m : State) → Going around text m rest → length rest ≡ 0 → 0 < length m.levels → IsFault around text faults.Nesting (length text)
-end_open around text rest m g e lt = go m.levels refl lt
-  where
-    go : (s : List Level) → m.levels ≡ s → 0 < length s → IsFault around text faults.Nesting (length text)
-    go [] h l = absurd (omega arith)
-    go (o ∷ os) h l = left_open around text m o os (subst (Going around text m) (no_rest rest e) g) h
-
-pub end_closed : (around : List Tag) (text rest : List ℕ) (m : State) → Going around text m rest → length rest ≡ 0 → length m.levels ≡ 0 → Spells around text m.raws
-end_closed around text rest m g e none = go m.levels refl none
-  where
-    go : (s : List Level) → m.levels ≡ s → length s ≡ 0 → Spells around text m.raws
-    go [] h l = ended around text m (subst (Going around text m) (no_rest rest e) g) h
-    go (o ∷ os) h l = absurd (omega arith)

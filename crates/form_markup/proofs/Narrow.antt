@@ -1,5 +1,5 @@
 -- Where nothing is restricted, no element is odd; and the marks of open elements.
-use Rattle.std.proofs.Common.{◌≡◌, ℕ, zero, suc, ◌+◌, ◌<◌, ◌≤◌, List, [], ◌∷◌, ◌++◌, length, get_or, set, reverse, Bool, true, false, ◌||◌, ◌&&◌, not, codes, refl, sym, ap, subst, ◌∙◌, arith}
+use Rattle.std.proofs.Common.{◌≡◌, ℕ, ◌+◌, ◌<◌, ◌≤◌, List, [], ◌∷◌, length, get_or, set, reverse, Bool, true, false, ◌||◌, ◌&&◌, not, codes, refl, sym, ap, subst, ◌∙◌}
 use Rattle.std.proofs.lemmas.List.{reverse-append}
 use Rattle.std.specs.List.{list_any}
 use Rattle.std.specs.Str.{str_eq_ignore_ascii_case}
@@ -8,6 +8,7 @@ use Rattle.form_tree.specs.declared.node.Tag.TheVariants as tags
 use Rattle.form_markup.specs.Faults.{is_in_itself, is_inside, is_misplaced, is_odd_in_optgroup, is_odd_in_select, is_stray_optgroup, is_stray_option, is_tag}
 use Rattle.form_markup.specs.Narrow.{AreMarked, is_narrow, is_odd_in_narrow}
 use Rattle.form_markup.specs.declared.machine.Open.{Open}
+use Rattle.form_markup.proofs.Stacks.{last_split}
 
 either_false : (a b : Bool) → (a || b) ≡ false → (a ≡ false) × (b ≡ false)
 either_false true b e = absurd (cc)
@@ -48,15 +49,6 @@ regrouped false false false d e = refl
 pub misplaced_is : (tag : Tag) (name : List ℕ) (round : List Tag) → is_misplaced tag name round ≡ (is_in_itself tag round || (is_odd_in_narrow tag name round || (is_stray_option tag round || is_stray_optgroup tag round)))
 misplaced_is tag name round =
     regrouped (is_in_itself tag round) (is_odd_in_select tag name round) (is_odd_in_optgroup tag round) (is_inside tags.Choice round) (is_stray_option tag round || is_stray_optgroup tag round)
-
--- the last of a list, and another in its place
-last_split : (xs : List Open) (n : ℕ) (o new : Open) → n < length xs → length xs ≤ n + 1 → o ≡ get_or xs n o → (ys : List Open) × (xs ≡ ys ++ (o ∷ [])) × (set xs n new ≡ ys ++ (new ∷ []))
-last_split [] n o new lt le e = absurd (omega arith)
-last_split (x ∷ []) zero o new lt le e = ([], ap (λ y. y ∷ []) (sym e), refl)
-last_split (x ∷ y ∷ ys) zero o new lt le e = absurd (omega arith)
-last_split (x ∷ xs) (suc n) o new lt le e =
-    let more = last_split xs n o new (omega arith) (omega arith) e in
-    (x ∷ more.0, ap (λ zs. x ∷ zs) more.1, ap (λ zs. x ∷ zs) more.2)
 
 -- the marks stay where the innermost element has another text
 pub marks_stay : (xs : List Open) (n : ℕ) (o new : Open) → n < length xs → length xs ≤ n + 1 → o ≡ get_or xs n o → new.tag ≡ o.tag → new.narrow ≡ o.narrow → AreMarked (reverse xs) → AreMarked (reverse (set xs n new))

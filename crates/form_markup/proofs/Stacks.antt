@@ -1,7 +1,7 @@
 -- The open elements, and an element's text.
 use Rattle.std.proofs.Common.{◌≡◌, ℕ, zero, suc, ◌+◌, ◌<◌, ◌≤◌, List, [], ◌∷◌, ◌++◌, length, get_or, set, map, reverse, Bool, true, false, ◌||◌, refl, sym, ap, ◌∙◌, append_assoc, append-nil, arith}
 use Rattle.std.specs.List.{list_any}
-use Rattle.std.proofs.lemmas.List.{length-reverse, map-append, reverse-append}
+use Rattle.std.proofs.lemmas.List.{reverse-append}
 use Rattle.std.proofs.lemmas.List.Folds.{list_any-append}
 use Rattle.std.proofs.lemmas.List.Sorted.{list_any-IsPermutation, IsPermutation-reverse}
 use Rattle.form_tree.specs.declared.node.Raw.{Raw}
@@ -18,9 +18,13 @@ any_tags : (test : Tag → Bool) (s : List Open) → list_any (λ o. test o.tag)
 any_tags test [] = refl
 any_tags test (o ∷ os) = ap (λ b. test o.tag || b) (any_tags test os)
 
+-- the order of the open elements does not count
+pub any_reversed : (test : Tag → Bool) (s : List Open) → list_any (λ o. test o.tag) s ≡ list_any (λ o. test o.tag) (reverse s)
+any_reversed test s = list_any-IsPermutation (λ o. test o.tag) s (reverse s) (IsPermutation-reverse s)
+
 any_round : (test : Tag → Bool) (around : List Tag) (s : List Open) → (list_any (λ o. test o.tag) (reverse s) || list_any test around) ≡ list_any test (tags_round around (outers_of (levels_of s)))
 any_round test around s =
-    ap (λ b. b || list_any test around) (sym (list_any-IsPermutation (λ o. test o.tag) s (reverse s) (IsPermutation-reverse s)) ∙ any_tags test s)
+    ap (λ b. b || list_any test around) (sym (any_reversed test s) ∙ any_tags test s)
     ∙ (ap (λ b. list_any test (map (λ outer. outer.tag) (outers_of (levels_of s))) || b) (list_any-IsPermutation test around (reverse around) (IsPermutation-reverse around))
     ∙ sym (list_any-append test (map (λ outer. outer.tag) (outers_of (levels_of s))) (reverse around)))
 
@@ -34,10 +38,6 @@ text_past i text [] ge = refl
 text_past zero text (x ∷ xs) ge = absurd (omega arith)
 text_past (suc i) text (x ∷ xs) ge = ap (λ zs. x ∷ zs) (text_past i text xs (omega arith))
 
-pub length_levels : (s : List Open) → length (levels_of s) ≡ length s
-length_levels [] = refl
-length_levels (o ∷ os) = ap suc (length_levels os)
-
 -- an open element passes the test, or else one of those round the text
 pub any_then : (test : Tag → Bool) (around : List Tag) (s : List Open) (r : Bool) → r ≡ list_any (λ o. test o.tag) (reverse s) → r ≡ true → r ≡ list_any test (tags_round around (outers_of (levels_of s)))
 any_then test around s r e t =
@@ -49,21 +49,22 @@ any_else test around s r q e f h =
     let none : list_any (λ o. test o.tag) (reverse s) ≡ false = sym e ∙ f in
     h ∙ (sym (ap (λ b. b || list_any test around) none) ∙ any_round test around s)
 
-pub more_front : (bytes : List ℕ) (s : List Level) (l : Level) → 0 < length s → more_text bytes s ++ (l ∷ []) ≡ more_text bytes (s ++ (l ∷ []))
-more_front bytes [] l lt = absurd (omega arith)
-more_front bytes (o ∷ os) l lt = refl
+-- the last of a list, and another in its place
+pub last_split : (xs : List Open) (n : ℕ) (o new : Open) → n < length xs → length xs ≤ n + 1 → o ≡ get_or xs n o → (ys : List Open) × (xs ≡ ys ++ (o ∷ [])) × (set xs n new ≡ ys ++ (new ∷ []))
+last_split [] n o new lt le e = absurd (omega arith)
+last_split (x ∷ []) zero o new lt le e = ([], ap (λ y. y ∷ []) (sym e), refl)
+last_split (x ∷ y ∷ ys) zero o new lt le e = absurd (omega arith)
+last_split (x ∷ xs) (suc n) o new lt le e =
+    let more = last_split xs n o new (omega arith) (omega arith) e in
+    (x ∷ more.0, ap (λ zs. x ∷ zs) more.1, ap (λ zs. x ∷ zs) more.2)
 
 -- more text of the last that was pushed
 pub more_last : (bytes : List ℕ) (xs : List Open) (n : ℕ) (o new : Open) → n < length xs → length xs ≤ n + 1 → o ≡ get_or xs n o → level_of new ≡ with_more bytes (level_of o) → levels_of (reverse (set xs n new)) ≡ more_text bytes (levels_of (reverse xs))
-more_last bytes [] n o new lt le e m = absurd (omega arith)
-more_last bytes (x ∷ []) zero o new lt le e m = ap (λ (l : Level). l ∷ []) (m ∙ ap (λ (y : Open). with_more bytes (level_of y)) e)
-more_last bytes (x ∷ y ∷ ys) zero o new lt le e m = absurd (omega arith)
-more_last bytes (x ∷ xs) (suc n) o new lt le e m =
-    let some : 0 < length (levels_of (reverse xs)) = omega (arith, length_levels (reverse xs), length-reverse xs) in
-    ap levels_of (reverse-append (x ∷ []) (set xs n new)) ∙ (map-append level_of (reverse (set xs n new)) (x ∷ [])
-    ∙ (ap (λ (s : List Level). s ++ (level_of x ∷ [])) (more_last bytes xs n o new (omega arith) (omega arith) e m)
-    ∙ (more_front bytes (levels_of (reverse xs)) (level_of x) some
-    ∙ ap (more_text bytes) (sym (map-append level_of (reverse xs) (x ∷ [])) ∙ sym (ap levels_of (reverse-append (x ∷ []) xs))))))
+more_last bytes xs n o new lt le e m =
+    let split = last_split xs n o new lt le e in
+    let before : reverse xs ≡ o ∷ reverse split.0 = ap reverse split.1 ∙ reverse-append split.0 (o ∷ []) in
+    let behind : reverse (set xs n new) ≡ new ∷ reverse split.0 = ap reverse split.2 ∙ reverse-append split.0 (new ∷ []) in
+    ap levels_of behind ∙ (ap (λ (l : Level). l ∷ levels_of (reverse split.0)) m ∙ sym (ap (λ (os : List Open). more_text bytes (levels_of os)) before))
 
 -- no more text, and more text twice
 pub more_none : (s : List Level) → more_text [] s ≡ s

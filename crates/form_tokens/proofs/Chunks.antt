@@ -1,5 +1,5 @@
 -- Chunks that stand one after another.
-use Rattle.std.proofs.Common.{◌≡◌, ℕ, ◌<◌, List, [], ◌∷◌, ◌++◌, Result, Ok, true, length, refl, sym, ap, subst, ◌∙◌, append_assoc, append-nil}
+use Rattle.std.proofs.Common.{◌≡◌, ℕ, ◌<◌, List, [], ◌∷◌, ◌++◌, Result, Ok, true, length, sym, ap, subst, append_assoc, append-nil}
 use Rattle.std.proofs.lemmas.Bool.{ltb-true}
 use Rattle.form_tokens.specs.Characters.{AreChunks, HaltsAt, IsReadTo, chunk_at, decoded, goes_on, is_some_text, joined}
 use Rattle.form_tokens.specs.Readers.{Fails, ◌>>=◌}
@@ -8,14 +8,8 @@ use Rattle.form_tokens.specs.declared.chunk.Context.TheVariants as contexts
 use Rattle.form_tokens.specs.declared.fault.Fault.{Fault}
 use Rattle.form_tokens.specs.declared.fault.Stop.{Stop}
 use Rattle.form_tokens.specs.declared.fault.Stop.TheVariants as stops
-use Rattle.form_tokens.proofs.Many.{Many, joined_more, many_end, many_failed, many_start, many_step}
+use Rattle.form_tokens.proofs.Many.{Many, many_end, many_failed, many_start, many_step}
 use Rattle.form_tokens.proofs.Shorter.{Short, chunk_short, each_at}
-
--- one more chunk
-pub chunks_more : (place : Context) (chunks : List (List ℕ)) (text rest behind chunk : List ℕ) → AreChunks place chunks text rest → goes_on place rest ≡ true → chunk_at place rest ≡ Ok (chunk, behind) → AreChunks place (chunks ++ (chunk ∷ [])) text behind
-chunks_more place [] text rest behind chunk c g e =
-    (behind, subst (λ (x : List ℕ). goes_on place x ≡ true) (sym c) g, subst (λ (x : List ℕ). chunk_at place x ≡ Ok (chunk, behind)) (sym c) e, refl)
-chunks_more place (x ∷ xs) text rest behind chunk c g e = (c.0, c.1, c.2, chunks_more place xs c.0 rest behind chunk c.3 g e)
 
 pub chunk_shorter : (place : Context) (text rest chunk : List ℕ) → chunk_at place text ≡ Ok (chunk, rest) → length rest < length text
 chunk_shorter place text rest chunk e = each_at (Short text) (chunk_at place text) (chunk, rest) (chunk_short place text) e
@@ -47,7 +41,3 @@ unfolding decoded
 decoded_halts text left stops.Memory h = tt
 decoded_halts text left (stops.At kind) h =
     many_failed (chunk_at contexts.Value) (goes_on contexts.Value) h.0 h.1 text (λ x. Ok (joined x.0)) (stops.At kind) (chunks_many h.0 text h.1 h.2) h.3 (some_left h.1 h.3) h.5
-
--- one more chunk behind what was written
-pub joined_behind : (bytes : List ℕ) (chunks : List (List ℕ)) (chunk : List ℕ) → (bytes ++ joined chunks) ++ chunk ≡ bytes ++ joined (chunks ++ (chunk ∷ []))
-joined_behind bytes chunks chunk = append_assoc bytes (joined chunks) chunk ∙ ap (λ (xs : List ℕ). bytes ++ xs) (sym (joined_more chunks chunk))

@@ -1,9 +1,9 @@
 -- A reader that is called again and again.
 use Rattle.std.proofs.Common.{◌≡◌, ℕ, zero, suc, ◌<◌, ◌≤◌, List, [], ◌∷◌, ◌++◌, Result, Ok, Err, Bool, true, false, length, refl, sym, ap, ◌∙◌, arith, append_assoc, append-nil, if◌then◌else◌, ◌==◌}
-use Rattle.std.proofs.lemmas.Bool.{eqb-true, eqb-false, lt-ltb, le-ltb}
+use Rattle.std.proofs.lemmas.Bool.{eqb-true, le-ltb}
 use Rattle.form_tokens.specs.Readers.{Fails}
 use Rattle.form_tokens.specs.Readers.{◌>>=◌, many}
-use Rattle.form_tokens.specs.Characters.{joined, is_some_text}
+use Rattle.form_tokens.specs.Characters.{is_some_text}
 use Rattle.form_tokens.specs.Attributes.{begins_attribute}
 use Rattle.form_tokens.specs.declared.fault.Stop.{Stop}
 use Rattle.form_tokens.specs.declared.fault.Stop.TheVariants as stops
@@ -63,19 +63,12 @@ many_err {A} reader more front rest text kind m e lt r = sym m.same ∙ ap (with
         let g : Result (A × List ℕ) Fault → Result (List A × List ℕ) Fault = λ q. q >>= λ y. many reader more n y.1 >>= λ xs. Ok (y.0 ∷ xs.0, xs.1) in
         turn_is reader more n rest e ∙ ap g r
 
-pub joined_more : (xs : List (List ℕ)) (y : List ℕ) → joined (xs ++ (y ∷ [])) ≡ joined xs ++ y
-joined_more [] y = append-nil y
-joined_more (x ∷ xs) y = ap (λ zs. x ++ zs) (joined_more xs y) ∙ sym (append_assoc x (joined xs) y)
-
 pub many_failed : {A B : Type 0} (reader : List ℕ → Result (A × List ℕ) Fault) (more : List ℕ → Bool) (front : List A) (rest text : List ℕ) (f : List A × List ℕ → Result B Fault) (stop : Stop)
     → Many reader more front rest text → more rest ≡ true → 0 < length rest → Fails stop (reader rest) → Fails stop (many reader more (length text) text >>= f)
 many_failed reader more front rest text f stops.Memory m e lt h = tt
 many_failed {A} {B} reader more front rest text f (stops.At kind) m e lt h =
     let g : Result (List A × List ℕ) Fault → Result B Fault = λ r. r >>= f in
     ap g (many_err reader more front rest text kind m e lt h)
-
-pub some_text : (rest : List ℕ) → false ≡ (length rest == 0) → (is_some_text rest ≡ true) × (0 < length rest)
-some_text rest e = let lt : 0 < length rest = omega (arith, eqb-false (length rest) 0 (sym e)) in (lt-ltb 0 (length rest) lt, lt)
 
 pub no_text : (rest : List ℕ) → true ≡ (length rest == 0) → is_some_text rest ≡ false
 no_text rest e = le-ltb 0 (length rest) (let none : length rest ≡ 0 = eqb-true (length rest) 0 (sym e) in omega arith)

@@ -7,7 +7,7 @@ use Rattle.std.proofs.lemmas.List.{get_or-take, length-take}
 use Rattle.std.proofs.lemmas.Bool.Decides.{nat_tests}
 use Rattle.form_tokens.specs.References.{begins_reference}
 use Rattle.form_tokens.specs.Characters.{begins_shown, closes_textarea, is_shown_angle, shown_len}
-use Rattle.form_tokens.specs.Ahead.{IsClear, is_loud}
+use Rattle.form_tokens.specs.Ahead.{IsClear, ends_plain}
 use Rattle.form_tokens.specs.Runs.{is_other}
 use Rattle.form_tokens.specs.declared.chunk.Context.{Context}
 use Rattle.form_tokens.proofs.Angles.{no_solidus}
@@ -148,15 +148,6 @@ clear_shown place (suc k) (suc n) (b ∷ bs) h le lt = go (clear_shown place k n
     go again true e s l = absurd (omega arith)
     go again false e s l = let more = again (omega arith) in let one = shown_here place b bs s in omega arith
 
--- another byte stands before the first of a kind
-pub some_before : (n b : ℕ) (bs : List ℕ) → 0 < n → b == 38 ≡ false → 0 < prefix_len (is_other 38) (take n (b ∷ bs))
-some_before zero b bs lt e = absurd (omega arith)
-some_before (suc n) b bs lt e = go (b == 38) e
-  where
-    go : (t : Bool) → t ≡ false → 0 < cond (not t) (1 + prefix_len (is_other 38) (take n bs)) 0
-    go true f = absurd (cc)
-    go false f = omega arith
-
 -- no `</` begins before the byte in front of the first `/`
 pub no_end_before : (b k : ℕ) (behind : List ℕ) → k < prefix_len (is_other 47) behind → OccursAt (b ∷ behind) (codes "</") k → ⊥
 no_end_before b k behind lt h =
@@ -166,13 +157,13 @@ no_end_before b k behind lt h =
     absurd (let no : is_other 47 47 ≡ true = subst (λ x. is_other 47 x ≡ true) solidus other in cc)
 
 -- where no byte of a front is a `&` or U+0000, the first of them stands behind the front
-pub quiet_front : (n : ℕ) (text : List ℕ) → n ≤ length text → list_any is_loud (take n text) ≡ false → (n ≤ prefix_len (is_other 0) text) × (n ≤ prefix_len (is_other 38) text)
-quiet_front zero text le e = (omega arith, omega arith)
-quiet_front (suc n) [] le e = absurd (omega arith)
-quiet_front (suc n) (b ∷ bs) le e = go (quiet_front n bs (omega arith)) (b == 38) refl (b == 0) refl e
+pub plain_front : (n : ℕ) (text : List ℕ) → n ≤ length text → list_any ends_plain (take n text) ≡ false → (n ≤ prefix_len (is_other 0) text) × (n ≤ prefix_len (is_other 38) text)
+plain_front zero text le e = (omega arith, omega arith)
+plain_front (suc n) [] le e = absurd (omega arith)
+plain_front (suc n) (b ∷ bs) le e = go (plain_front n bs (omega arith)) (b == 38) refl (b == 0) refl e
   where
-    go : (list_any is_loud (take n bs) ≡ false → (n ≤ prefix_len (is_other 0) bs) × (n ≤ prefix_len (is_other 38) bs))
-        → (x : Bool) → b == 38 ≡ x → (y : Bool) → b == 0 ≡ y → ((x || y) || list_any is_loud (take n bs)) ≡ false
+    go : (list_any ends_plain (take n bs) ≡ false → (n ≤ prefix_len (is_other 0) bs) × (n ≤ prefix_len (is_other 38) bs))
+        → (x : Bool) → b == 38 ≡ x → (y : Bool) → b == 0 ≡ y → ((x || y) || list_any ends_plain (take n bs)) ≡ false
         → (suc n ≤ cond (not (b == 0)) (1 + prefix_len (is_other 0) bs) 0) × (suc n ≤ cond (not (b == 38)) (1 + prefix_len (is_other 38) bs) 0)
     go again true f y g h = absurd (cc)
     go again false f true g h = absurd (cc)

@@ -29,6 +29,6 @@ AreParts place (part ∷ parts) text rest =
     (between : List ℕ) × (goes_on place text ≡ true) × IsPart place text part between
     × AreParts place parts between rest
 
--- a byte at which a run may end
-abbrev pub is_loud : ℕ → Bool
-is_loud b = b == ampersand || (b == 0)
+-- a byte that is no plain character: a `&`, or U+0000
+abbrev pub ends_plain : ℕ → Bool
+ends_plain b = b == ampersand || (b == 0)

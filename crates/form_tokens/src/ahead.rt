@@ -1,7 +1,7 @@
 // How far one may go over characters without a look at each.
 ghost use Rattle.std.specs.Prelude.{◌≤◌, ◌≡◌, ◌+◌, ℕ, drop, length, min, not, ◌==◌};
 ghost use Rattle.std.specs.List.{list_any, prefix_len};
-ghost use Rattle.form_tokens.specs.Ahead.{IsClear, is_loud};
+ghost use Rattle.form_tokens.specs.Ahead.{IsClear, ends_plain};
 ghost use Rattle.form_tokens.specs.Characters.{shown_len};
 ghost use Rattle.form_tokens.specs.Runs.{is_other};
 ghost use Rattle.form_tokens.specs.declared.chunk.Context.TheVariants as contexts;
@@ -14,7 +14,7 @@ use memchr::memmem::find;
 const LOOK_AHEAD: usize = 4_096;
 
 // In a text that is not longer each byte is tested before any is written.
-const FEW: usize = 512;
+const SHORT_TEXT: usize = 512;
 
 // One more than these places, unless that is past the end.
 fn one_more(near: usize, len: usize) -> usize
@@ -102,20 +102,20 @@ pub fn some_clear(context: Context, bytes: &[u8], clear: usize) -> usize
     clear_len(context, bytes)
 }
 
-// 0 where a run of characters may end at the byte: at a `&` and U+0000.
-fn quietness(byte: u8) -> u8
-    ensures { (result == 0) ≡ is_loud byte }
+// 0 at a `&` and at U+0000, and at no other byte.
+fn plainness(byte: u8) -> u8
+    ensures { (result == 0) ≡ ends_plain byte }
 {
     u8::min(byte, byte.wrapping_sub(b'&'))
 }
 
 // Whether no byte is a `&` or U+0000. The loop goes over all, so that the compiler makes vectors of it.
-fn is_quiet(bytes: &[u8]) -> bool
-    ensures { result ≡ not (list_any is_loud bytes.now) }
+fn is_plain(bytes: &[u8]) -> bool
+    ensures { result ≡ not (list_any ends_plain bytes.now) }
 {
     let mut least = u8::MAX;
     for b in bytes {
-        least = u8::min(least, quietness(*b));
+        least = u8::min(least, plainness(*b));
     }
     least != 0
 }
@@ -123,12 +123,12 @@ fn is_quiet(bytes: &[u8]) -> bool
 /// How many bytes at the front are characters and no `&`, where there are few of them before what may end
 /// characters; else 0.
 #[inline(always)]
-pub fn quiet_len(context: Context, bytes: &[u8]) -> usize
+pub fn plain_len(context: Context, bytes: &[u8]) -> usize
     ensures value { shown_len context bytes.now ≡ result + shown_len context (drop result bytes.now) }
     ensures bound { result ≤ length bytes.now }
 {
-    let near = usize::min(FEW, bytes.len());
+    let near = usize::min(SHORT_TEXT, bytes.len());
     let count = before_stop(context, bytes, near);
     let (front, _) = bytes.split_at(count);
-    if is_quiet(front) { count } else { 0 }
+    if is_plain(front) { count } else { 0 }
 }

@@ -1,5 +1,5 @@
 // Characters and references are written, decoded, behind a text.
-ghost use Rattle.std.specs.Prelude.{◌≡◌, ◌≤◌, ◌+◌, ◌++◌, ◌<◌, ◌∷◌, [], ℕ, List, drop, length, string_bytes, false, true, IfErr, IfOk, IsUtf8, MatchOption, Ok, OnOk};
+ghost use Rattle.std.specs.Prelude.{◌≡◌, ◌≤◌, ◌++◌, ◌<◌, ◌∷◌, [], ℕ, List, drop, length, string_bytes, false, true, IfErr, IfOk, IsUtf8, MatchOption, OnOk};
 ghost use Rattle.std.specs.Char.{encode_utf8};
 ghost use Rattle.form_tokens.specs.declared.chunk.Context.{Context};
 ghost use Rattle.std.specs.List.{prefix_len};
@@ -9,7 +9,7 @@ ghost use Rattle.form_tokens.specs.Characters.{HaltsIn, IsReadTo, chunk_at, chun
 ghost use Rattle.form_tokens.specs.Ahead.{AreParts, IsClear};
 ghost use Rattle.form_tokens.specs.Runs.{begins, is_other};
 
-use crate::ahead::quiet_len;
+use crate::ahead::plain_len;
 use crate::characters::{common_chunk, goes_on, goes_on_in, part_of};
 use crate::chunk::{Chunk, Context};
 use crate::cursor::before;
@@ -48,11 +48,11 @@ fn write_chunk(
 
 // How many bytes there are up to the next tag or the end, where all of them are characters and few; else 0.
 #[inline(always)]
-fn quiet_end(context: Context, bytes: &[u8]) -> usize
+fn plain_end(context: Context, bytes: &[u8]) -> usize
     ensures value { 0 < result → result ≡ shown_len context bytes.now }
     ensures ends { 0 < result → goes_on context (drop result bytes.now) ≡ false }
 {
-    let count = quiet_len(context, bytes);
+    let count = plain_len(context, bytes);
     let (_, rest) = bytes.split_at(count);
     if goes_on_in(context, rest) {
         return 0;
@@ -63,12 +63,12 @@ fn quiet_end(context: Context, bytes: &[u8]) -> usize
 // All characters up to the next tag or the end, and what stands behind them, where they are few and none of
 // them is a `&`.
 #[inline(always)]
-fn quiet_of(context: Context, text: &str) -> Option<(&str, &str)>
+fn plain_of(context: Context, text: &str) -> Option<(&str, &str)>
     ensures value { MatchOption result (Unit {0})
         (λ x. IsReadTo context (x.0.now ∷ []) text.now x.1.now) }
     ensures utf8 { MatchOption result (Unit {0}) (λ x. IsUtf8 x.1.now) }
 {
-    let count = quiet_end(context, text.as_bytes());
+    let count = plain_end(context, text.as_bytes());
     if count == 0 {
         return None;
     }
@@ -187,8 +187,8 @@ pub fn write_text<'a>(out: &mut String, context: Context, text: &'a str) -> Resu
     ensures utf8 { IfOk result (λ rest. IsUtf8 rest.now) }
     ensures halt { IfErr result (λ halt. HaltsIn context text.now halt) }
 {
-    if let Some((quiet, rest)) = quiet_of(context, text) {
-        out.push_str(quiet)?;
+    if let Some((plain, rest)) = plain_of(context, text) {
+        out.push_str(plain)?;
         return Ok(rest);
     }
     write_parts(out, context, text)

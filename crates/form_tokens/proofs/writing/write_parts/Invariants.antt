@@ -2,8 +2,7 @@ use Rattle.std.proofs.Common.{◌≡◌, ◌++◌, ℕ, List, length, string_byt
 use denote.Text.{Utf8}
 use denote.Shadow.{shadow}
 use Rattle.form_tokens.specs.Characters.{joined}
-use Rattle.form_tokens.specs.Ahead.{IsClear}
-use Rattle.form_tokens.specs.Ahead.{AreParts}
+use Rattle.form_tokens.specs.Ahead.{AreParts, IsClear}
 use Rattle.form_tokens.proofs.writing.write_parts.Given as goal
 
 abbrev pub invariant-parts : goal.invariant-parts
